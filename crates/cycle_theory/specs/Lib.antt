@@ -1,0 +1,4 @@
+pub mod Nets
+pub mod Method
+pub mod Theorems
+pub mod Flows
