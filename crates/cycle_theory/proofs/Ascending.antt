@@ -1,14 +1,15 @@
 -- A strictly ascending list is fixed by its members (determined).
-use Rattle.std.proofs.shelf.Tests.{false≢true, ltb-true, ltb-false, cond-both, eqb-true, and-parts, or-cases, eqb-false, and-cases, or-parts}
-use lib.Dec.{ltb, eqb}
 use mathlib.Core.Bool.{true, false, cond, _&&_}
 use mathlib.Core.List.{List, [], _∷_}
 use mathlib.Core.Logic.{_⊎_, inl, inr, _↔_}
 use mathlib.Core.Path.{_≡_, refl, sym, _∙_, subst}
 use native.Mathlib.Omega.{arith}
+use lib.Dec.{ltb, eqb}
+use Rattle.std.proofs.shelf.Tests.{false≢true, ltb-true, ltb-false, cond-both, eqb-true, and-parts, or-cases, eqb-false, and-cases, or-parts}
 use Rattle.cycle_theory.specs.Nets.{Counts, Mem, Before, Ascending}
 use Rattle.cycle_theory.specs.Method.{before, insert, ascending}
 
+-- the test `before` says Before
 pub before-true : (x y : Counts) → before x y ≡ true → Before x y
 before-true [] [] t = absurd (false≢true t)
 before-true [] (b ∷ y) t = tt
@@ -18,7 +19,7 @@ before-true (a ∷ x) (b ∷ y) t = elim (or-cases (ltb a b) (eqb a b && before 
   | inr h ↦ inr (eqb-true a b (and-parts (eqb a b) (before x y) h .0), before-true x y (and-parts (eqb a b) (before x y) h .1))
 ]
 
--- neither-before is before: they are equal
+-- where neither row is before the other, they are equal
 pub neither-before : (x y : Counts) → before x y ≡ false → before y x ≡ false → x ≡ y
 neither-before [] [] s t = refl
 neither-before [] (b ∷ y) s t = absurd (false≢true (sym s))
@@ -31,6 +32,7 @@ neither-before (a ∷ x) (b ∷ y) s t =
     let g : before y x ≡ false = elim (and-cases (eqb b a) (before y x) (q .1)) [ inl h ↦ absurd (eqb-false b a h (sym e)) | inr h ↦ h ] in
     let r : x ≡ y = neither-before x y f g in cc
 
+-- Before is an order
 pub before-trans : (x y z : Counts) → Before x y → Before y z → Before x z
 before-trans [] [] z h k = absurd h
 before-trans [] (b ∷ y) [] h k = absurd k
@@ -54,6 +56,7 @@ pub record Put (x : Counts) (l m : List Counts) : Type 0 where
   pub now : Mem x m
   pub still : (z : Counts) → Mem z l → Mem z m
 
+-- insert keeps a list ascending
 pub put : (x : Counts) (l : List Counts) → Ascending l → Put x l (insert x l)
 put x [] a = record { asc = (λ y m. absurd m, tt); out = λ z m. m; now = inl refl; still = λ z m. absurd m }
 put x (y ∷ l) a =
@@ -74,10 +77,12 @@ put x (y ∷ l) a =
     })
     (λ t. record { asc = a; out = λ z m. inr m; now = inl (neither-before x y s t); still = λ z m. m }))
 
+-- so the rows come in ascending order
 pub ascending-ascends : (l : List Counts) → Ascending (ascending l)
 ascending-ascends [] = tt
 ascending-ascends (x ∷ l) = put x (ascending l) (ascending-ascends l) .asc
 
+-- and are the same rows
 pub mem-ascending : (l : List Counts) (z : Counts) → Mem z (ascending l) → Mem z l
 mem-ascending [] z m = m
 mem-ascending (x ∷ l) z m = elim (put x (ascending l) (ascending-ascends l) .out z m) [ inl e ↦ inl e | inr q ↦ inr (mem-ascending l z q) ]
@@ -87,7 +92,7 @@ ascending-mem [] z m = m
 ascending-mem (x ∷ l) z (inl e) = subst (λ (v : Counts). Mem v (insert x (ascending l))) (sym e) (put x (ascending l) (ascending-ascends l) .now)
 ascending-mem (x ∷ l) z (inr m) = put x (ascending l) (ascending-ascends l) .still z (ascending-mem l z m)
 
--- T6
+-- the first rows are equal, since each stands in the other list; then the rest
 pub determined : (l m : List Counts) → Ascending l → Ascending m → ((z : Counts) → Mem z l ↔ Mem z m) → l ≡ m
 determined [] [] a b h = refl
 determined [] (y ∷ m) a b h = absurd (h y .1 (inl refl))

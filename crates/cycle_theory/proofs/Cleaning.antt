@@ -1,13 +1,13 @@
 -- Cleaning rows that reach the cycles leaves rows that cover them (cleaned-cover).
-use Prim.Native.Nat.{ℕ, zero, suc, _<_}
-use Rattle.std.proofs.shelf.Tests.{false≢true, eqb-true, eq-eqb, and-parts, and-from, or-cases, or-left, or-right, and-cases, not-true, not-false, not-from-false, cases-bool, both-ways}
-use lib.Dec.{eqb}
 use mathlib.Core.Bool.{true, false, not, _||_}
 use mathlib.Core.List.{List, [], _∷_}
 use mathlib.Core.Logic.{_⊎_, inl, inr}
 use mathlib.Core.Path.{_≡_, refl, sym, _∙_, subst}
+use Prim.Native.Nat.{ℕ, zero, suc, _<_}
 use native.Mathlib.Nat.{not-suc-le-zero}
 use native.Mathlib.Omega.{arith}
+use lib.Dec.{eqb}
+use Rattle.std.proofs.shelf.Tests.{false≢true, eqb-true, eq-eqb, and-parts, and-from, or-cases, or-left, or-right, and-cases, not-true, not-false, not-from-false, cases-bool, both-ways}
 use Rattle.cycle_theory.specs.Nets.{Counts, at, Mem, Within}
 use Rattle.cycle_theory.specs.Method.{keep, every, within, same, stays, once, cleaned}
 use Rattle.cycle_theory.specs.Flows.{Flow, Cover, Reaches, Kept}
@@ -16,6 +16,7 @@ use Rattle.cycle_theory.proofs.Members.{mem-keepIf, keepIf-first, keepIf-rest,
 use Rattle.cycle_theory.proofs.Supports.{within-true, true-within, within?, steps-in-use, no-more-steps}
 use Rattle.cycle_theory.proofs.Minimals.{equal-or-smaller}
 
+-- the test `same` says that rows are equal
 pub same-true : (x y : Counts) → same x y ≡ true → x ≡ y
 same-true [] [] t = refl
 same-true [] (b ∷ y) t = absurd (false≢true t)
@@ -31,7 +32,7 @@ same-self (a ∷ x) = and-from (eqb a a) (same x x) (eq-eqb a a refl) (same-self
 pub true-same : (x y : Counts) → x ≡ y → same x y ≡ true
 true-same x y e = subst (λ (z : Counts). same x z ≡ true) e (same-self x)
 
--- cleaning
+-- the test `stays` says Kept, and is true where it holds
 pub stays-kept : (L : List Counts) (z : Counts) → stays L z ≡ true → Kept L z
 stays-kept L z t w m b = elim (or-cases (same w z) (not (within w z)) (every-mem (λ v. same v z || not (within v z)) L t w m)) [
   | inl e ↦ same-true w z e
@@ -44,12 +45,12 @@ kept-stays L z k = mem-every (λ v. same v z || not (within v z)) L (λ w m. eli
   | inr f ↦ or-right (same w z) (not (within w z)) (not-from-false (within w z) f)
 ])
 
--- taking equal rows once leaves every row
+-- taking equal rows once leaves the same rows
 mem-once : (L : List Counts) (z : Counts) → Mem z (once L) → Mem z L
 mem-once [] z m = m
 mem-once (x ∷ L) z m = elim (mem-keepIf z (every (λ y. not (same x y)) L) x (once L) m) [ inl t ↦ inl (t .1) | inr q ↦ inr (mem-once L z q) ]
 
--- a row that the test leaves out stands further on
+-- a row that is not kept stands once more further on
 further : (L : List Counts) (x : Counts) → every (λ y. not (same x y)) L ≡ false → Mem x L
 further [] x f = absurd (false≢true (sym f))
 further (y ∷ L) x f = elim (and-cases (not (same x y)) (every (λ v. not (same x v)) L) f) [
@@ -65,6 +66,7 @@ once-mem (x ∷ L) z (inl e) = elim (cases-bool (every (λ y. not (same x y)) L)
 ]
 once-mem (x ∷ L) z (inr m) = keepIf-rest z (every (λ y. not (same x y)) L) x (once L) (once-mem L z m)
 
+-- cleaned rows are those that are kept
 pub mem-cleaned : (L : List Counts) (z : Counts) → Mem z (cleaned L) → Mem z L × Kept L z
 mem-cleaned L z m =
     let t : Mem z L × (stays L z ≡ true) = mem-keep (stays L) z L (mem-once (keep (stays L) L) z m) in
@@ -73,7 +75,7 @@ mem-cleaned L z m =
 pub cleaned-mem : (L : List Counts) (z : Counts) → Mem z L → Kept L z → Mem z (cleaned L)
 cleaned-mem L z m k = once-mem (keep (stays L) L) z (keep-mem (stays L) z L m (kept-stays L z k))
 
--- a row is kept, or another stands within it
+-- a row is kept, or a different one stands within it
 pub kept? : (L : List Counts) (z : Counts) → Kept L z ⊎ ((w : Counts) × (Mem w L) × (Within w z) × (w ≡ z → ⊥))
 kept? [] z = inl (λ w m b. absurd m)
 kept? (v ∷ L) z = elim (kept? L z) [
@@ -87,7 +89,7 @@ kept? (v ∷ L) z = elim (kept? L z) [
   ]
 ]
 
--- within each row stands one that is kept
+-- within each row stands one that is kept: what stands within uses fewer steps, so this comes to an end after k rounds
 pub kept-within :
     (n : ℕ) (A : List Flow) (L : List Counts) → Reaches n A L → (k : ℕ) (z : Counts) → Mem z L → steps-in-use n (at z) < k →
     (v : Counts) × (Mem v L) × (Kept L v) × Within v z
@@ -103,6 +105,7 @@ kept-within n A L c (suc k) z m h = elim (kept? L z) [
   ]
 ]
 
+-- stated for any list S with the rows that are kept, in whatever order
 pub cleaned-cover :
     (n : ℕ) (A : List Flow) (L S : List Counts) → Reaches n A L →
     ((z : Counts) → Mem z S → Mem z L × Kept L z) → ((z : Counts) → Mem z L → Kept L z → Mem z S) → Cover n A S

@@ -1,11 +1,11 @@
 -- The walk: every cycle is taken apart, row by row (walk-induction), so that a multiple of it is a sum of rows (decompose).
-use Prim.Native.Nat.{ℕ, zero, suc, _+_, _*_, _<_}
-use lib.ListN.{length}
 use mathlib.Core.List.{List, [], _∷_}
 use mathlib.Core.Logic.{inl, inr}
 use mathlib.Core.Path.{_≡_, refl, ap, subst}
+use Prim.Native.Nat.{ℕ, zero, suc, _+_, _*_, _<_}
 use native.Mathlib.Nat.{mul-pos, not-suc-le-zero}
 use native.Mathlib.Omega.{arith}
+use lib.ListN.{length}
 use Rattle.cycle_theory.specs.Nets.{Counts, at, Mem, Within}
 use Rattle.cycle_theory.specs.Theorems.{mixed}
 use Rattle.cycle_theory.specs.Flows.{Flow, FlowCycle, Candidate, Cover, Reaches}
@@ -17,7 +17,7 @@ use Rattle.cycle_theory.proofs.Ratios.{Lower, lower}
 pub cover-reaches : (n : ℕ) (A : List Flow) (R : List Counts) → Cover n A R → Reaches n A R
 cover-reaches n A R i = record { good = i .good; covers = i .covers }
 
--- every cycle is taken apart row by row
+-- what holds of zeros, and of a cycle when it holds of the rest after one row was taken away, holds of every cycle
 pub walk-induction :
     (n : ℕ) (A : List Flow) (R : List Counts) → Reaches n A R → (P : Counts → Type 0) →
     ((y : Counts) → length y ≡ n → ((j : ℕ) → at y j ≡ 0) → P y) →
@@ -44,13 +44,14 @@ Uses (c ∷ cs) (w ∷ R) x = (0 < c → Within w x) × Uses cs R x
 abbrev pub Decomposed : List Counts → Counts → Type 0
 Decomposed R x = (t : ℕ) × (cs : List ℕ) × (0 < t) × (length cs ≡ length R) × (Uses cs R x) × ((j : ℕ) → t * at x j ≡ mixed cs R j)
 
+-- all coefficients 0
 zeros : (R : List Counts) (x : Counts) → (cs : List ℕ) × (length cs ≡ length R) × (Uses cs R x) × ((j : ℕ) → mixed cs R j ≡ 0)
 zeros [] x = ([], refl, tt, λ j. refl)
 zeros (w ∷ R) x =
     let t : (cs : List ℕ) × (length cs ≡ length R) × (Uses cs R x) × ((j : ℕ) → mixed cs R j ≡ 0) = zeros R x in
     (0 ∷ t .0, ap suc (t .1), (λ h. absurd (not-suc-le-zero h), t .2), λ j. omega (arith, t .3 j))
 
--- one row more
+-- m more of the row w
 spend :
     (R : List Counts) (x : Counts) (cs : List ℕ) → length cs ≡ length R → Uses cs R x → (w : Counts) → Mem w R → Within w x → (m : ℕ) →
     (ds : List ℕ) × (length ds ≡ length R) × (Uses ds R x) × ((j : ℕ) → mixed ds R j ≡ mixed cs R j + m * at w j)
@@ -71,6 +72,7 @@ wider R [] x y b us = tt
 wider [] (c ∷ cs) x y b us = tt
 wider (w ∷ R) (c ∷ cs) x y b us = (λ h j q. b j (us .0 h j q), wider R cs x y b (us .1))
 
+-- the walk gives the coefficients: each round multiplies them by p and adds s to that of the row taken
 pub decompose : (n : ℕ) (A : List Flow) (R : List Counts) → Cover n A R → (x : Counts) → length x ≡ n → FlowCycle A x → Decomposed R x
 decompose n A R i x lx cx = walk-induction n A R (cover-reaches n A R i) (Decomposed R) none more (suc (steps-in-use n (at x))) x (omega arith) lx cx
   where

@@ -1,10 +1,10 @@
 -- A minimal cycle is the only one within its steps (unique). Rows that cover the cycles are the minimal cycles (members).
-use Prim.Native.Nat.{ℕ, _<_}
-use lib.ListN.{length}
 use mathlib.Core.List.{List}
 use mathlib.Core.Logic.{_⊎_, inl, inr, _↔_}
 use mathlib.Core.Path.{_≡_, sym, _∙_, subst}
+use Prim.Native.Nat.{ℕ, _<_}
 use native.Mathlib.Omega.{arith}
+use lib.ListN.{length}
 use Rattle.cycle_theory.specs.Nets.{Counts, at, Mem, Nonzero, Within}
 use Rattle.cycle_theory.specs.Flows.{Flow, FlowCycle, Candidate, FlowMinimal, Cover}
 use Rattle.cycle_theory.proofs.Rows.{zeros?}
@@ -12,7 +12,7 @@ use Rattle.cycle_theory.proofs.Supports.{steps-in-use, no-more-steps}
 use Rattle.cycle_theory.proofs.Balance.{cycle-part}
 use Rattle.cycle_theory.proofs.Ratios.{proportional-equal, Lower, lower}
 
--- of two coprime cycles, one within the other, either they are equal or a smaller cycle stands within
+-- a cycle other than the zeros within e that uses fewer steps
 pub record Smaller (n : ℕ) (A : List Flow) (e : Counts) : Type 0 where
   pub row : Counts
   pub long : length row ≡ n
@@ -21,6 +21,7 @@ pub record Smaller (n : ℕ) (A : List Flow) (e : Counts) : Type 0 where
   pub within : Within row e
   pub smaller : steps-in-use n (at row) < steps-in-use n (at e)
 
+-- of two candidates, one within the other: the rest is zeros, and the rows are proportional and so equal, or the rest is smaller
 pub equal-or-smaller : (n : ℕ) (A : List Flow) (w e : Counts) → Candidate n A w → Candidate n A e → Within w e → (w ≡ e) ⊎ Smaller n A e
 equal-or-smaller n A w e gw ge b = go (lower n w e (gw .long) (ge .long) (gw .nonzero) b)
   where
@@ -37,14 +38,14 @@ equal-or-smaller n A w e gw ge b = go (lower n w e (gw .long) (ge .long) (gw .no
       })
     ]
 
--- T2: nothing else stands within a minimal cycle
+-- nothing but itself stands within a minimal cycle
 pub unique : (n : ℕ) (A : List Flow) (w e : Counts) → Candidate n A w → FlowMinimal n A e → Within w e → w ≡ e
 unique n A w e gw me b = elim (equal-or-smaller n A w e gw (me .is) b) [
   | inl q ↦ q
   | inr s ↦ absurd (omega (arith, s .smaller, no-more-steps n (at e) (at (s .row)) (me .least (s .row) (s .long) (s .cycle) (s .nonzero) (s .within))))
 ]
 
--- T5
+-- of rows that cover the cycles each is minimal, and each minimal cycle is one of them
 pub minimal-of-mem : (n : ℕ) (A : List Flow) (R : List Counts) → Cover n A R → (w : Counts) → Mem w R → FlowMinimal n A w
 minimal-of-mem n A R i w m = record {
   is = i .good w m;
@@ -59,16 +60,18 @@ mem-of-minimal n A R i w m =
     let g : (v : Counts) × (Mem v R) × Within v w = i .covers w (m .is .long) (m .is .cycle) (m .is .nonzero) in
     subst (λ (v : Counts). Mem v R) (unique n A (g .0) w (i .good (g .0) (g .1)) m (g .2)) (g .1)
 
+-- both ways
 pub members : (n : ℕ) (A : List Flow) (R : List Counts) → Cover n A R → (w : Counts) → Mem w R ↔ FlowMinimal n A w
 members n A R i w = (minimal-of-mem n A R i w, mem-of-minimal n A R i w)
 
--- minimal for one list of places, minimal for another with the same cycles
+-- minimal depends on the cycles only
 minimal-carries : (n : ℕ) (A B : List Flow) → ((x : Counts) → length x ≡ n → FlowCycle A x ↔ FlowCycle B x) → (w : Counts) → FlowMinimal n A w → FlowMinimal n B w
 minimal-carries n A B h w m = record {
   is = record { long = m .is .long; cycle = h w (m .is .long) .0 (m .is .cycle); nonzero = m .is .nonzero; primitive = m .is .primitive };
   least = λ y ly cy. m .least y ly (h y ly .1 cy);
 }
 
+-- so rows that cover the same cycles are the same rows
 pub same-cycles :
     (n : ℕ) (A B : List Flow) (R S : List Counts) → Cover n A R → Cover n B S → ((x : Counts) → length x ≡ n → FlowCycle A x ↔ FlowCycle B x) →
     (w : Counts) → Mem w R ↔ Mem w S

@@ -1,18 +1,18 @@
 -- Two rows with no common divisor that are proportional are equal (proportional-equal). Of a row that uses all steps of another
 -- as much as possible of the other is taken away, and fewer steps are left in use (lower).
-use Prim.Native.Nat.{ℕ, zero, suc, _+_, _*_, _-_, _≤_, _<_}
-use lib.ListN.{length}
 use mathlib.Core.Logic.{_⊎_, inl, inr}
 use mathlib.Core.Path.{_≡_, sym, _∙_, ap, subst}
+use Prim.Native.Nat.{ℕ, zero, suc, _+_, _*_, _-_, _≤_, _<_}
 use native.Mathlib.Nat.{eq-zero-or-pos, mul-le-mul-right, le-of-mul-le-mul-left, mul-le-mul-left, mul-sub, le-of-suc-le-suc, not-suc-le-zero, eq-or-lt-of-le, eq-of-mul-eq-mul-left}
 use native.Mathlib.Omega.{arith}
+use lib.ListN.{length}
 use Rattle.cycle_theory.specs.Nets.{Counts, at, Nonzero, Within}
 use Rattle.cycle_theory.specs.Method.{tabulate}
 use Rattle.cycle_theory.specs.Flows.{Primitive, Combines}
 use Rattle.cycle_theory.proofs.Rows.{split, at-past, length-tabulate, at-tabulate-all, equal-rows}
 use Rattle.cycle_theory.proofs.Supports.{steps-in-use, fewer-steps}
 
--- two proportional rows are multiples of one row
+-- two rows that are multiples of one row, the base
 pub record Ray (e f : ℕ → ℕ) : Type 0 where
   pub base : ℕ → ℕ
   pub a : ℕ
@@ -23,6 +23,7 @@ pub record Ray (e f : ℕ → ℕ) : Type 0 where
 ray-flip : {e f : ℕ → ℕ} → Ray e f → Ray f e
 ray-flip r = record { base = r .base; a = r .b; b = r .a; left = r .right; right = r .left }
 
+-- if e − f and f are multiples of one row, so are e and f
 ray-up : (e f : ℕ → ℕ) → ((j : ℕ) → f j ≤ e j) → Ray (λ j. e j - f j) f → Ray e f
 ray-up e f h r = record {
   base = r .base;
@@ -32,13 +33,14 @@ ray-up e f h r = record {
   right = r .right;
 }
 
--- p·e = (p + d)·f: then p·(e - f) = d·f
+-- p × e = (p + d) × f: f is at most e, and p × (e − f) = d × f
 ray-le : (p d : ℕ) (e f : ℕ) → 0 < p → p * e ≡ (p + d) * f → f ≤ e
 ray-le p d e f hp h = le-of-mul-le-mul-left {k = p} (omega arith) hp
 
 ray-less : (p d : ℕ) (e f : ℕ) → 0 < p → p * e ≡ (p + d) * f → p * (e - f) ≡ d * f
 ray-less p d e f hp h = omega (arith, mul-sub p e f)
 
+-- proportional rows are multiples of one row: Euclid's algorithm, run on the rows themselves
 pub ray : (fuel p s : ℕ) (e f : ℕ → ℕ) → 0 < p → 0 < s → p + s ≤ fuel → ((j : ℕ) → p * e j ≡ s * f j) → Ray e f
 ray zero p s e f hp hs hf h = absurd (omega arith)
 ray (suc k) p s e f hp hs hf h =
@@ -62,7 +64,7 @@ ray (suc k) p s e f hp hs hf h =
           ray-up e f (λ j. ray-le p d (e j) (f j) hp (q j)) (ray k p d (λ j. e j - f j) f hp (omega arith) (omega arith) (λ j. ray-less p d (e j) (f j) hp (q j)))
     ]
 
--- two coprime rows that are proportional are equal
+-- the two factors divide all counts of their rows, so both are 1
 pub proportional-equal : (e f : Counts) (p s : ℕ) → length e ≡ length f → Primitive e → Primitive f → 0 < p → 0 < s → ((j : ℕ) → p * at e j ≡ s * at f j) → e ≡ f
 proportional-equal e f p s l ce cf hp hs h =
     let r : Ray (at e) (at f) = ray (p + s) p s (at e) (at f) hp hs (omega arith) h in
@@ -70,19 +72,21 @@ proportional-equal e f p s l ce cf hp hs h =
     let b1 : r .b ≡ 1 = cf (r .b) (λ j. (r .base j, r .right j)) in
     equal-rows e f l (λ j. r .left j ∙ ap (λ (m : ℕ). m * r .base j) (a1 ∙ sym b1) ∙ sym (r .right j))
 
--- the least ratio
+-- w is zeros, or j is a step of w at which y j / w j is least
 abbrev pub Least : ℕ → (ℕ → ℕ) → (ℕ → ℕ) → Type 0
 Least n w y = ((j : ℕ) → j < n → w j ≡ 0) ⊎ ((j : ℕ) × (0 < w j) × (j < n) × ((i : ℕ) → i < n → y j * w i ≤ w j * y i))
 
 by-last : (P : ℕ → Type 0) (n : ℕ) → ((i : ℕ) → i < n → P i) → P n → (i : ℕ) → i < suc n → P i
 by-last P n f l i h = elim (eq-or-lt-of-le (le-of-suc-le-suc h)) [ inl e ↦ subst P (sym e) l | inr lt ↦ f i lt ]
 
+-- of three ratios, the least of the first two and the third
 over : (wj yj wn yn wi yi : ℕ) → 0 < wj → wj * yn < yj * wn → yj * wi ≤ wj * yi → yn * wi ≤ wn * yi
 over wj yj wn yn wi yi pos h k =
     let a : (wj * yn) * wi ≤ (yj * wn) * wi = mul-le-mul-right wi (omega arith) in
     let b : wn * (yj * wi) ≤ wn * (wj * yi) = mul-le-mul-left wn k in
     le-of-mul-le-mul-left {k = wj} (omega arith) pos
 
+-- one step more
 least-step : (n : ℕ) (w y : ℕ → ℕ) → Least n w y → Least (suc n) w y
 least-step n w y (inl z) = elim (eq-zero-or-pos (w n)) [
   | inl e ↦ inl (by-last (λ j. w j ≡ 0) n z e)
@@ -102,7 +106,7 @@ pub least : (n : ℕ) (w y : ℕ → ℕ) → Least n w y
 least zero w y = inl (λ j h. absurd (not-suc-le-zero h))
 least (suc n) w y = least-step n w y (least n w y)
 
--- what is left of a multiple of y when as much as possible of w is taken away
+-- the rest p × y − s × w of taking away as much of w as a multiple of y holds
 pub record Lower (n : ℕ) (w y : Counts) : Type 0 where
   pub p : ℕ
   pub s : ℕ
@@ -114,6 +118,7 @@ pub record Lower (n : ℕ) (w y : Counts) : Type 0 where
   pub within : Within rest y
   pub smaller : steps-in-use n (at rest) < steps-in-use n (at y)
 
+-- at the step with the least ratio the rest is 0, so it uses fewer steps
 pub lower : (n : ℕ) (w y : Counts) → length w ≡ n → length y ≡ n → Nonzero w → Within w y → Lower n w y
 lower n w y lw ly nw b = go (least n (at w) (at y))
   where

@@ -1,12 +1,12 @@
 -- A step keeps the cover (stepped), and its rows can be had without cleaning (step-members).
-use Prim.Native.Nat.{ℕ, _<_}
-use Rattle.std.proofs.shelf.Tests.{ltb-true, lt-ltb, eqb-true, eq-eqb}
-use lib.Dec.{ltb, eqb}
 use mathlib.Core.Bool.{true}
 use mathlib.Core.List.{List, [], _∷_, map}
 use mathlib.Core.Logic.{inl, inr, _↔_}
 use mathlib.Core.Path.{_≡_, refl, sym, _∙_, ap, subst}
+use Prim.Native.Nat.{ℕ, _<_}
 use native.Mathlib.Omega.{arith}
+use lib.Dec.{ltb, eqb}
+use Rattle.std.proofs.shelf.Tests.{ltb-true, lt-ltb, eqb-true, eq-eqb}
 use Rattle.cycle_theory.specs.Nets.{Counts, Mem, Within, Ascending}
 use Rattle.cycle_theory.specs.Method.{keep, cleaned}
 use Rattle.cycle_theory.specs.Theorems.{NoThird}
@@ -18,7 +18,7 @@ use Rattle.cycle_theory.proofs.Cleaning.{mem-cleaned, cleaned-mem, cleaned-cov
 use Rattle.cycle_theory.proofs.Ascending.{ascending-ascends, mem-ascending, ascending-mem}
 use Rattle.cycle_theory.proofs.ThirdRow.{first-within, second-within, within-pair, one-of-pair, no-third-of-kept, kept-of-no-third}
 
--- a row of two lists of rows
+-- z is the row of a u and a v
 abbrev Pair : Flow → List Counts → List Counts → Counts → Type 0
 Pair p us vs z = (u : Counts) × (v : Counts) × (Mem u us) × (Mem v vs) × (z ≡ pairRow p u v)
 
@@ -76,7 +76,7 @@ module _ (p : Flow) (R : List Counts) where
       (keep-mem (λ u. ltb (losses p u) (gains p u)) (t .0) R (t .2) (lt-ltb (losses p t.0) (gains p t.0) (t .4)))
       (keep-mem (λ v. ltb (gains p v) (losses p v)) (t .1) R (t .3) (lt-ltb (gains p t.1) (losses p t.1) (t .5)))))
 
--- T3 for the cleaned list
+-- before cleaning, the rows reach the cycles of one place more
 pub flowRows-reach : (n : ℕ) (A : List Flow) (R : List Counts) → Cover n A R → (p : Flow) → Reaches n (p ∷ A) (flowRows p R)
 flowRows-reach n A R i p = record {
   good = λ z m. born-candidate n A R i p z (mem-flowRows p R z m);
@@ -85,6 +85,7 @@ flowRows-reach n A R i p = record {
       (t .0, flowRows-mem p R (t .0) (t .1), t .2);
 }
 
+-- and cleaned they cover them
 pub stepped : (n : ℕ) (A : List Flow) (R : List Counts) → Cover n A R → (p : Flow) → Cover n (p ∷ A) (flowStep p R) × Ascending (flowStep p R)
 stepped n A R i p = (
   cleaned-cover n (p ∷ A) (flowRows p R) (flowStep p R) (flowRows-reach n A R i p)
@@ -93,6 +94,7 @@ stepped n A R i p = (
   ascending-ascends (cleaned (flowRows p R)),
 )
 
+-- the row of a pair is kept just when there is no third row
 pub third-row :
     (n : ℕ) (A : List Flow) (R : List Counts) → Cover n A R → (p : Flow) (u v : Counts) → Mem u R → Mem v R → losses p u < gains p u → gains p v < losses p v →
     Mem (pairRow p u v) (flowStep p R) ↔ NoThird R u v
@@ -102,6 +104,7 @@ third-row n A R i p u v mu mv hu hv = (
       (λ w m b. kept-of-no-third n A R i p u v mu mv hu hv alone w (mem-flowRows p R w m) b)),
 )
 
+-- the rows after a step, with no cleaning: balanced rows are minimal, so they are kept; pairs are kept without a third row
 pub step-members : (n : ℕ) (A : List Flow) (R : List Counts) → Cover n A R → (p : Flow) (z : Counts) → Mem z (flowStep p R) ↔ Chosen p R z
 step-members n A R i p z = (there, back)
   where
@@ -133,7 +136,7 @@ step-members n A R i p z = (there, back)
         unique n A w z (record { long = g .long; cycle = g .cycle .1; nonzero = g .nonzero; primitive = g .primitive }) (minimal-of-mem n A R i z (t .0)) b))
     back (inr t) = subst (λ (x : Counts). Mem x (flowStep p R)) (sym (t .7)) (third-row n A R i p (t .0) (t .1) (t .2) (t .3) (t .4) (t .5) .1 (t .6))
 
--- two pairs never give one row
+-- two pairs never give one row: the rows of the second pair stand within the first, so they are those of the first
 pub pairs-apart :
     (n : ℕ) (A : List Flow) (R : List Counts) → Cover n A R → (p : Flow) (u v u′ v′ : Counts) → Mem u R → Mem v R → Mem u′ R → Mem v′ R →
     losses p u < gains p u → gains p v < losses p v → losses p u′ < gains p u′ → gains p v′ < losses p v′ →
@@ -149,7 +152,7 @@ pairs-apart n A R i p u v u′ v′ mu mv mu′ mv′ hu hv hu′ hv′ alone e 
   ]),
 )
 
--- a pair never gives a row that was there
+-- a pair never gives a row that was there: both its rows would be equal to it
 pub pair-new :
     (n : ℕ) (A : List Flow) (R : List Counts) → Cover n A R → (p : Flow) (u v : Counts) → Mem u R → Mem v R →
     losses p u < gains p u → gains p v < losses p v → Mem (pairRow p u v) R → ⊥

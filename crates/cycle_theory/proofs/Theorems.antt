@@ -1,27 +1,28 @@
 -- The theorems, in the words of nets, from those on flows.
 use mathlib.Core.Logic.{_↔_}
-use lib.ListN.{length}
 use mathlib.Core.Path.{_≡_, sym, _∙_, ap, subst}
-use mathlib.Core.List.{List, [], map}
+use mathlib.Core.List.{List, [], _∷_, _++_, map}
 use Prim.Native.Nat.{ℕ}
+use lib.ListN.{length}
 use Rattle.cycle_theory.specs.Nets.{Counts, Mem, Place, Cycle}
-use Rattle.cycle_theory.specs.Method.{combined, divided, step, tss}
-use Rattle.cycle_theory.specs.Theorems.{Opposed, NoThird, Tss-minimal, Tss-sums, Tss-same, Third-row, One-pair, Pair-new, Tss-order, One-number, Units-minimal, Tss-reaches}
+use Rattle.cycle_theory.specs.Method.{combined, divided, units, step, tss}
+use Rattle.cycle_theory.specs.Theorems.{AllMinimal, Opposed, NoThird, Tss-minimal, Tss-sums, Tss-same, Third-row, One-pair, Pair-new, Tss-order, One-list, One-number, Same-steps, Units-minimal, Step-minimal, Tss-reaches, Divisor-greatest}
 use Rattle.cycle_theory.specs.Flows.{flow, Cover, pairRow, flowStep}
+use Rattle.cycle_theory.proofs.Divisors.{divisor-divides, divisor-greatest}
 use Rattle.cycle_theory.proofs.Decomposition.{Decomposed, decompose, cycle-carries}
-use Rattle.cycle_theory.proofs.Minimals.{minimal-of-mem, mem-of-minimal}
+use Rattle.cycle_theory.proofs.Minimals.{unique, members}
 use Rattle.cycle_theory.proofs.Ascending.{determined}
 use Rattle.cycle_theory.proofs.Steps as steps
 use Rattle.cycle_theory.proofs.Runs.{run-same}
 use Rattle.cycle_theory.proofs.Integers.{gains-said, loses-said, pair-flow, step-flow}
-use Rattle.cycle_theory.proofs.Nets.{cycle-flows, flows-cycle, minimal-flows, tss-run, tss-cover, flows-minimal}
+use Rattle.cycle_theory.proofs.Nets.{cycle-flows, flows-cycle, minimal-flows, flows-minimal, tss-run, tss-cover, after-last}
 
 pub tss-minimal : Tss-minimal
 tss-minimal n A = record {
   ascending = tss-cover n A .1;
   exactly = λ x. (
-    λ m. flows-minimal n A x (minimal-of-mem n (map flow A) (tss n A) (tss-cover n A .0) x m),
-    λ m. mem-of-minimal n (map flow A) (tss n A) (tss-cover n A .0) x (minimal-flows n A x m),
+    λ m. flows-minimal n A x (members n (map flow A) (tss n A) (tss-cover n A .0) x .0 m),
+    λ m. members n (map flow A) (tss n A) (tss-cover n A .0) x .1 (minimal-flows n A x m),
   );
 }
 
@@ -30,7 +31,7 @@ tss-sums n A x c =
     let d : Decomposed (tss n A) x = decompose n (map flow A) (tss n A) (tss-cover n A .0) x (c .long) (cycle-flows n A x c) in
     record { times = d .0; positive = d .2; coefficients = d .1; one-each = d .3; adds-up = d .5 }
 
--- equal lists: each cycle is taken apart into rows that are cycles of the other places
+-- equal lists: each cycle is taken apart into rows that are cycles of the other places too
 same-cycle : (n : ℕ) (A B : List Place) → tss n A ≡ tss n B → (x : Counts) → Cycle n A x → Cycle n B x
 same-cycle n A B e x c =
     flows-cycle n B x (c .long)
@@ -56,7 +57,7 @@ module _ (n : ℕ) (A : List Place) (p : Place) (u v : Counts) (o : Opposed p (t
   pub third : Mem (divided (combined p u v)) (step p (tss n A)) ↔ NoThird (tss n A) u v
   third =
       let t : Mem (pairRow (flow p) u v) (flowStep (flow p) (tss n A)) ↔ NoThird (tss n A) u v =
-          steps.third-row n (map flow A) (tss n A) (tss-cover n A .0) (flow p) u v (o .first) (o .second) (gains-said p u (o .gains)) (loses-said p v (o .loses)) in
+      steps.third-row n (map flow A) (tss n A) (tss-cover n A .0) (flow p) u v (o .first) (o .second) (gains-said p u (o .gains)) (loses-said p v (o .loses)) in
       (λ m. t .0 (to-flow m), λ h. from-flow (t .1 h))
 
 pub third-row : Third-row
@@ -79,14 +80,27 @@ tss-order n A B h = tss-same n A B .1 (λ x. (
   λ c. record { long = c .long; stays = λ p m. c .stays p (h p .0 m) },
 ))
 
+pub one-list : One-list
+one-list n A a b h k =
+    determined a b (h .ascending) (k .ascending) (λ x. (λ m. k .exactly x .1 (h .exactly x .0 m), λ m. h .exactly x .1 (k .exactly x .0 m)))
+
 pub one-number : One-number
-one-number n A a b h k =
-    let e : h .0 ≡ k .0 =
-    determined (h .0) (k .0) (h .1 .ascending) (k .1 .ascending) (λ x. (λ m. k .1 .exactly x .1 (h .1 .exactly x .0 m), λ m. h .1 .exactly x .1 (k .1 .exactly x .0 m))) in
-    sym (h .2) ∙ ap (λ (R : List Counts). length R) e ∙ k .2
+one-number n A a b h k = sym (h .2) ∙ ap (λ (R : List Counts). length R) (one-list n A (h .0) (k .0) (h .1) (k .1)) ∙ k .2
+
+pub same-steps : Same-steps
+same-steps n A x y mx my b = unique n (map flow A) x y (minimal-flows n A x mx .is) (minimal-flows n A y my) b
 
 pub units-minimal : Units-minimal
 units-minimal n = tss-minimal n []
 
+-- the rows are those of the method, which takes the next place last
+pub step-minimal : Step-minimal
+step-minimal n A p rows h =
+    subst (λ (R : List Counts). AllMinimal n (A ++ p ∷ []) R)
+    (after-last (units n) A p ∙ ap (step p) (one-list n A (tss n A) rows (tss-minimal n A) h)) (tss-minimal n (A ++ p ∷ []))
+
 pub tss-reaches : Tss-reaches
 tss-reaches n A x c nx = tss-cover n A .0 .covers x (c .long) (cycle-flows n A x c) nx
+
+pub greatest-divisor : Divisor-greatest
+greatest-divisor x = (divisor-divides x, λ d h. divisor-greatest d x h)

@@ -1,11 +1,11 @@
 -- The single steps cover the cycles of no place, and are ascending (units-cover).
-use Rattle.cycle_theory.proofs.Divisors.{one-of-product}
-use Prim.Native.Nat.{ℕ, zero, suc, _≤_, _<_}
 use mathlib.Core.List.{[]}
 use mathlib.Core.Logic.{inl, inr}
 use mathlib.Core.Path.{_≡_, refl, sym, _∙_, ap, subst}
+use Prim.Native.Nat.{ℕ, zero, suc, _≤_, _<_}
 use native.Mathlib.Nat.{eq-zero-or-pos, le-of-suc-le-suc, not-suc-le-zero, eq-or-lt-of-le}
 use native.Mathlib.Omega.{arith}
+use Rattle.cycle_theory.proofs.Divisors.{one-of-product}
 use Rattle.cycle_theory.specs.Nets.{Counts, at, Mem, Within, Before, Ascending}
 use Rattle.cycle_theory.specs.Method.{delta, unit, unitsTo, units}
 use Rattle.cycle_theory.specs.Flows.{Candidate, Cover}
@@ -21,6 +21,7 @@ delta-pos zero (suc j) h = absurd (not-suc-le-zero h)
 delta-pos (suc i) zero h = absurd (not-suc-le-zero h)
 delta-pos (suc i) (suc j) h = ap suc (delta-pos i j h)
 
+-- a unit counts its step once, and no other
 unit-at : (n i : ℕ) → i < n → (j : ℕ) → at (unit n i) j ≡ delta i j
 unit-at n i h = at-tabulate-all n (delta i) (λ j l. elim (eq-zero-or-pos (delta i j)) [ inl e ↦ e | inr p ↦ absurd (omega (arith, delta-pos i j p)) ])
 
@@ -49,6 +50,7 @@ unit-good n i h =
 unit-below : (n i : ℕ) (x : Counts) → i < n → 0 < at x i → Within (unit n i) x
 unit-below n i x h p j q = subst (λ (k : ℕ). 0 < at x k) (delta-pos i j (omega (arith, unit-at n i h j))) p
 
+-- every count list is a cycle of no place, and has the unit of a step that it uses within it
 pub unit-rows-cover : (n : ℕ) → Cover n [] (unitsTo n n)
 unit-rows-cover n = record {
   good = λ w m.
@@ -65,6 +67,7 @@ unit-rows-cover n = record {
       (unit n (nx .0), units-mem n n (nx .0) h, unit-below n (nx .0) x h (nx .1));
 }
 
+-- the unit of a later step comes first
 unit-less : (n k i : ℕ) → i < k → k < n → Before (unit n k) (unit n i)
 unit-less zero k i h l = absurd (not-suc-le-zero l)
 unit-less (suc n) zero i h l = absurd (not-suc-le-zero h)

@@ -8,28 +8,34 @@
 -- Combines a x b y c z   a × x = b × y + c × z, step by step
 -- sumFrom p x i          the sum of the effects of p on the counts of x from step i on
 -- dot g x i              the same for naturals g
--- Flow, flow p           what each step adds to a place, and what it takes; that of a list of effects
--- gains f x, losses f x  what the counts x add to the place in all, and what they take
+-- Flow                   what each step adds to a place, and what it takes
+-- flow p                 that of a list of effects
+-- gains f x              what the counts x add to the place in all
+-- losses f x             what they take
 -- Balanced f x           the two are equal
 -- FlowCycle A x          every place of A is balanced on x
 -- Candidate n A w        a cycle of n counts, other than the zeros, that nothing but 1 divides
 -- FlowMinimal n A w      a candidate such that every cycle other than the zeros within its steps uses all of them
 -- Cover n A R            R holds candidates, none within another, and every cycle other than the zeros has one within it
 -- Reaches n A R          the same of rows that are not cleaned yet: one may be within another
+-- excess f u             how much the place gains by u more than it loses
+-- shortfall f v          how much the place loses by v more than it gains
 -- pairRow f u v          the row of u and v, divided
+-- flowPairs f us vs      the rows of each u of us and each v of vs
 -- flowRows f R           the balanced rows, and the rows of all pairs
--- flowStep, flowAfter    the step, and the places from the first on
--- flowRun n A            the places from the last on
+-- flowStep f R           the rows after one place more
+-- flowAfter R A          the rows after all places, from the first on
+-- flowRun n A            the rows after all places, from the last on
 -- Born f R z             z stands in flowRows f R, said
 -- Kept L z               z stays when L is cleaned, said
 -- Chosen f R z           z stands in flowStep f R, said with no cleaning: the pair has no third row
-use lib.Dec.{eqb, ltb}
 use mathlib.Core.Path.{_≡_}
 use mathlib.Core.List.{List, [], _∷_, _++_, map}
 use mathlib.Core.Logic.{_⊎_}
 use Prim.Native.Nat.{ℕ, suc, _+_, _*_, _-_, _<_}
 use lib.IntN.{ℤ, pos, _+ℤ_, _*ℤ_}
 use lib.ListN.{length}
+use lib.Dec.{eqb, ltb}
 use Rattle.cycle_theory.specs.Nets.{Counts, at, Mem, Place, Nonzero, Within, Divides}
 use Rattle.cycle_theory.specs.Method.{surplus, deficit, weighted, divided, keep, cleaned, ascending, units}
 use Rattle.cycle_theory.specs.Theorems.{NoThird}
@@ -90,8 +96,14 @@ pub record Reaches (n : ℕ) (A : List Flow) (R : List Counts) : Type 0 where
   pub good : (w : Counts) → Mem w R → Candidate n A w
   pub covers : (x : Counts) → length x ≡ n → FlowCycle A x → Nonzero x → (w : Counts) × (Mem w R) × Within w x
 
+abbrev pub excess : Flow → Counts → ℕ
+excess f u = gains f u - losses f u
+
+abbrev pub shortfall : Flow → Counts → ℕ
+shortfall f v = losses f v - gains f v
+
 abbrev pub pairRow : Flow → Counts → Counts → Counts
-pairRow f u v = divided (weighted (losses f v - gains f v) u (gains f u - losses f u) v)
+pairRow f u v = divided (weighted (shortfall f v) u (excess f u) v)
 
 abbrev pub flowPairs : Flow → List Counts → List Counts → List Counts
 flowPairs f [] vs = []

@@ -1,21 +1,35 @@
 -- The method: from the single steps, one place after the other, to the rows. Everything here computes.
 --
 -- tabulate n f          the list of f 0, f 1, .. of length n
--- unit n i, units n     the row of n counts that counts step i once; all n of them, ascending
--- surplus z, deficit z  s of a positive z = s, and r of a negative z = −r; otherwise 0
+-- delta i j             1 where i is j, and 0 elsewhere
+-- unit n i              the row of n counts that counts step i once
+-- unitsTo n k           the units of the steps below k, that of the last step first
+-- units n               all n units, ascending
+-- surplus z             s of a positive z = s, otherwise 0
+-- deficit z             r of a negative z = −r, otherwise 0
 -- weighted r u s v      r × u + s × v
 -- combined p u v        r × u + s × v, where u has the positive sum s on p, and v the negative sum −r
--- gcd a b, divisor x    the greatest common divisor of two numbers, by Euclid, and of the counts of x
--- divided x             x divided by the common divisor of its counts
+-- gcdTo k a b           Euclid's algorithm, in at most k turns
+-- gcd a b               the greatest common divisor of two numbers
+-- divisor x             the greatest common divisor of the counts of x
+-- divided x             x divided by it
+-- keepIf test x list    x and then the list where the test is true, else the list
 -- keep test list        the members that pass the test
+-- every test list       whether all members pass the test
+-- isZero z              whether z is 0
+-- isPositive z          whether z is above 0
+-- isNegative z          whether z is below 0
 -- pairs p us vs         for each u of us and each v of vs, combined p u v, divided
--- all-rows p rows       the rows with sum 0 on p; and of each with a positive and each with a negative sum their combined row, divided
--- within x y            the test of Within
--- same x y              the test of equality
--- stays rows x          no row different from x uses only steps which x uses
+-- all-rows p rows       the rows with sum 0 on p; and of each with a positive and each with a negative sum their row, divided
+-- covered a b           whether b is not 0 where a is not
+-- within x y            whether every step that x uses, y uses
+-- same x y              whether x and y are equal
+-- stays rows x          whether no row different from x uses only steps which x uses
+-- once rows             one of equal rows, that which stands last
 -- cleaned rows          one of equal rows; a row is dropped when a different row uses only steps which that row uses
--- before x y            the test of Before
--- ascending rows        the rows in ascending order (insert puts a row in its place, unless it stands there)
+-- before x y            whether x has the smaller count at the first step where the two rows differ
+-- insert x rows         x put in its place among ascending rows, unless it stands there
+-- ascending rows        the rows in ascending order
 -- step p rows           the rows after the place p, from those before it
 -- after rows places     the rows after all of the places, in their order
 -- tss n places          the method: from the units, one place after the other
@@ -31,7 +45,6 @@ abbrev pub tabulate : ℕ → (ℕ → ℕ) → Counts
 tabulate zero f = []
 tabulate (suc n) f = f 0 ∷ tabulate n (λ j. f (suc j))
 
--- 1 at i, and 0 elsewhere
 abbrev pub delta : ℕ → ℕ → ℕ
 delta zero zero = 1
 delta zero (suc j) = 0
@@ -41,7 +54,6 @@ delta (suc i) (suc j) = delta i j
 abbrev pub unit : ℕ → ℕ → Counts
 unit n i = tabulate n (delta i)
 
--- the units of the steps below k, that of the last step first
 abbrev pub unitsTo : ℕ → ℕ → List Counts
 unitsTo n zero = []
 unitsTo n (suc k) = unit n k ∷ unitsTo n k
@@ -63,7 +75,6 @@ weighted r u s v = tabulate (length u) (λ j. r * at u j + s * at v j)
 abbrev pub combined : Place → Counts → Counts → Counts
 combined p u v = weighted (deficit (sum p v)) u (surplus (sum p u)) v
 
--- Euclid's algorithm, in at most k turns
 abbrev pub gcdTo : ℕ → ℕ → ℕ → ℕ
 gcdTo zero a b = a
 gcdTo (suc k) a zero = a
@@ -112,7 +123,6 @@ all-rows p rows =
     keep (λ x. isZero (sum p x)) rows
     ++ pairs p (keep (λ u. isPositive (sum p u)) rows) (keep (λ v. isNegative (sum p v)) rows)
 
--- a step that x uses is in use
 abbrev pub covered : ℕ → ℕ → Bool
 covered zero b = true
 covered (suc a) zero = false
@@ -132,7 +142,6 @@ same (a ∷ x) (b ∷ y) = eqb a b && same x y
 abbrev pub stays : List Counts → Counts → Bool
 stays rows x = every (λ w. same w x || not (within w x)) rows
 
--- one of equal rows: each is kept where it stands last
 abbrev pub once : List Counts → List Counts
 once [] = []
 once (x ∷ rows) = keepIf (every (λ y. not (same x y)) rows) x (once rows)

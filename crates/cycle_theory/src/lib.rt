@@ -1,5 +1,5 @@
 // The theorems on nets, each asked for by the contract of a small function.
-ghost use Rattle.cycle_theory.specs.Theorems.{Tss-minimal, Tss-sums, Tss-same, Third-row, One-pair, Pair-new, Tss-order, One-number, Units-minimal, Tss-reaches};
+ghost use Rattle.cycle_theory.specs.Theorems.{Tss-minimal, Tss-sums, Tss-same, Third-row, One-pair, Pair-new, Tss-order, One-list, One-number, Same-steps, Units-minimal, Step-minimal, Tss-reaches, Divisor-greatest};
 
 // The method's list is strictly ascending, and holds a count list exactly when it is a minimal cycle.
 pub fn tss_minimal() -> u8
@@ -50,9 +50,23 @@ pub fn tss_order() -> u8
     0
 }
 
+// There is one list of the minimal cycles.
+pub fn one_list() -> u8
+    ensures { λ _. ⌜ One-list ⌝ }
+{
+    0
+}
+
 // There is one number of minimal cycles.
 pub fn one_number() -> u8
     ensures { λ _. ⌜ One-number ⌝ }
+{
+    0
+}
+
+// Two minimal cycles, one of which uses only steps which the other uses, are equal.
+pub fn same_steps() -> u8
+    ensures { λ _. ⌜ Same-steps ⌝ }
 {
     0
 }
@@ -64,9 +78,23 @@ pub fn units_minimal() -> u8
     0
 }
 
+// A step takes the list of the minimal cycles of some places to that of one place more.
+pub fn step_minimal() -> u8
+    ensures { λ _. ⌜ Step-minimal ⌝ }
+{
+    0
+}
+
 // Every cycle other than the zeros has a listed row within it.
 pub fn tss_reaches() -> u8
     ensures { λ _. ⌜ Tss-reaches ⌝ }
+{
+    0
+}
+
+// What rows are divided by is a common divisor of their counts, and a multiple of every other.
+pub fn divisor_greatest() -> u8
+    ensures { λ _. ⌜ Divisor-greatest ⌝ }
 {
     0
 }
