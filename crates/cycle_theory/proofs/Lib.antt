@@ -17,3 +17,12 @@ pub mod Runs
 pub mod Integers
 pub mod Nets
 pub mod Theorems
+pub mod FirstFailing
+pub mod LeastRatios
+pub mod WalkingTests
+pub mod WalkingRounds
+pub mod WalkingSums
+pub mod Walking
+pub mod WalkingNets
+pub mod WalkingWide
+pub mod WorkedQuestions

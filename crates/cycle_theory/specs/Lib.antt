@@ -2,3 +2,6 @@ pub mod Nets
 pub mod Method
 pub mod Theorems
 pub mod Flows
+pub mod Walk
+pub mod Questions
+pub mod WorkedQuestions

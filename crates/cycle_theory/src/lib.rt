@@ -1,6 +1,8 @@
 // The theorems on nets, each asked for by the contract of a small function.
 ghost use Rattle.cycle_theory.specs.Theorems.{Tss-minimal, Tss-sums, Tss-same, Third-row, One-pair, Pair-new, Tss-order, One-list, One-number, Same-steps, Units-minimal, Step-minimal, Tss-reaches, Divisor-greatest};
 
+pub mod questions;
+
 // The method's list is strictly ascending, and holds a count list exactly when it is a minimal cycle.
 pub fn tss_minimal() -> u8
     ensures { λ _. ⌜ Tss-minimal ⌝ }

@@ -1,0 +1,15 @@
+pub mod Outside
+pub mod Sums
+pub mod Dividing
+pub mod Reading
+pub mod Comparing
+pub mod Placing
+pub mod Covering
+pub mod Surveying
+pub mod Signs
+pub mod Filling
+pub mod Growing
+pub mod Ending
+pub mod Widening
+pub mod Opening
+pub mod Answering

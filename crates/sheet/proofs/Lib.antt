@@ -1,0 +1,10 @@
+pub mod Causes
+pub mod Listing
+pub mod Reading
+pub mod Offers
+pub mod Histories
+pub mod Answering
+pub mod Writing
+pub mod Asking
+pub mod Breaking
+pub mod Certifying
