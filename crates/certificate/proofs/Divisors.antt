@@ -22,6 +22,3 @@ gcd-turn a zero h = absurd (h refl)
 gcd-turn a (suc b) h =
     let r : a % suc b < suc b = mod-lt a {m = suc b} (omega arith) in
     turns (a % suc b) b (suc b) (a % suc b) (omega arith) (omega arith)
-
-pub gcd-end : (a : ℕ) → gcd a 0 ≡ a
-gcd-end a = refl

@@ -32,13 +32,13 @@ module _ (j : ℕ) (row rest : Counts) (best : Held) (is : IsRatio best (leastTo
   pub least-here : (here : Held) → here .top ≡ at rest j → here .bottom ≡ at row j → at rest j * best .bottom < best .top * at row j → IsRatio here (leastTo (j + 1) row rest)
   least-here here t b h =
       let e : leastTo (j + 1) row rest ≡ record { top = at rest j; bottom = at row j } =
-        leastTo-more j row rest ∙ cond-true (ltb (at rest j * leastTo j row rest .bottom) (leastTo j row rest .top * at row j)) (record { top = at rest j; bottom = at row j }) (leastTo j row rest) (test-is ∙ lt-ltb (at rest j * best .bottom) (best .top * at row j) h) in
+      leastTo-more j row rest ∙ cond-true (ltb (at rest j * leastTo j row rest .bottom) (leastTo j row rest .top * at row j)) (record { top = at rest j; bottom = at row j }) (leastTo j row rest) (test-is ∙ lt-ltb (at rest j * best .bottom) (best .top * at row j) h) in
       record { top = t ∙ ap (λ (r : Ratio). r .top) (sym e); bottom = b ∙ ap (λ (r : Ratio). r .bottom) (sym e) }
 
   pub least-stays : best .top * at row j ≤ at rest j * best .bottom → IsRatio best (leastTo (j + 1) row rest)
   least-stays h =
       let e : leastTo (j + 1) row rest ≡ leastTo j row rest =
-        leastTo-more j row rest ∙ cond-false (ltb (at rest j * leastTo j row rest .bottom) (leastTo j row rest .top * at row j)) (record { top = at rest j; bottom = at row j }) (leastTo j row rest) (test-is ∙ le-ltb (at rest j * best .bottom) (best .top * at row j) h) in
+      leastTo-more j row rest ∙ cond-false (ltb (at rest j * leastTo j row rest .bottom) (leastTo j row rest .top * at row j)) (record { top = at rest j; bottom = at row j }) (leastTo j row rest) (test-is ∙ le-ltb (at rest j * best .bottom) (best .top * at row j) h) in
       record { top = is .top ∙ ap (λ (r : Ratio). r .top) (sym e); bottom = is .bottom ∙ ap (λ (r : Ratio). r .bottom) (sym e) }
 
 abbrev as-ratio : ℕ → ℕ → Ratio

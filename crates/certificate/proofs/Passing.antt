@@ -56,13 +56,13 @@ begun-passing rows x v b =
     let s : sharesOf c ≡ [] = no-shares c (b .certificate) in
     let n : length (rowsOf c) ≡ 0 = ap length r in
     let cs : coefficientsOf (length rows) c ≡ begun rows x .coefficients =
-      ap (λ (q : List ℕ). tabulate (length rows) (share q (sharesOf c))) r
-      ∙ ap (λ (q : List ℕ). tabulate (length rows) (share [] q)) s
-      ∙ no-coefficients (length rows) in
+    ap (λ (q : List ℕ). tabulate (length rows) (share q (sharesOf c))) r
+    ∙ ap (λ (q : List ℕ). tabulate (length rows) (share [] q)) s
+    ∙ no-coefficients (length rows) in
     let same : walkOf (length rows) v ≡ begun rows x =
-      ap (λ (q : Counts). as-walk q (c .multiplier) (coefficientsOf (length rows) c)) (b .rest)
-      ∙ ap (λ (t : ℕ). as-walk x t (coefficientsOf (length rows) c)) (b .certificate .multiplier)
-      ∙ ap (λ (q : List ℕ). as-walk x 1 q) cs in
+    ap (λ (q : Counts). as-walk q (c .multiplier) (coefficientsOf (length rows) c)) (b .rest)
+    ∙ ap (λ (t : ℕ). as-walk x t (coefficientsOf (length rows) c)) (b .certificate .multiplier)
+    ∙ ap (λ (q : List ℕ). as-walk x 1 q) cs in
     record {
       goes = ap (walkOn rows) same;
       passed = λ h l. absurd (omega (arith, l));

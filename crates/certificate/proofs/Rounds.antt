@@ -26,6 +26,6 @@ begun-room question w b =
 pub round-room : (k : ℕ) (row : Counts) (w v : Walk) → within row (w .rest .counts) ≡ true → Room w → Round k row w v → Room v
 round-room k row w v t room r =
     let f : inUse (left (leastRatio row (w .rest .counts) .bottom) (w .rest .counts) (leastRatio row (w .rest .counts) .top) row) < inUse (w .rest .counts) =
-      uses-fewer row (w .rest .counts) (within-true row (w .rest .counts) t) (leastRatio row (w .rest .counts)) (is-least row (w .rest .counts) (r .positive)) in
+    uses-fewer row (w .rest .counts) (within-true row (w .rest .counts) t) (leastRatio row (w .rest .counts)) (is-least row (w .rest .counts) (r .positive)) in
     let n : v .certificate .count ≡ w .certificate .count + 1 = r .grown .count in
     omega (arith, n, f, room, ap inUse (r .rest))

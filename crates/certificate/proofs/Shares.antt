@@ -36,10 +36,10 @@ module _ (rs cs : List ℕ) (n k : ℕ) (few : n ≤ 24) (long : length rs ≡ 2
 
   pub first-share : (i : ℕ) → i < n → at rs i ≡ k → ((h : ℕ) → h < i → at rs h ≡ k → ⊥) → at cs i ≡ share (take n rs) (take n cs) k
   first-share i l e before = sym (
-    share-at (take n rs) (take n cs) k i (long-shares ∙ sym long-rows) (omega (arith, long-rows, l)) (getD-take n rs i 0 l ∙ e)
-    (λ h q z. before h q (sym (getD-take n rs h 0 (omega (arith, q, l))) ∙ z))
-    ∙ getD-take n cs i 0 l
-  )
+      share-at (take n rs) (take n cs) k i (long-shares ∙ sym long-rows) (omega (arith, long-rows, l)) (getD-take n rs i 0 l ∙ e)
+      (λ h q z. before h q (sym (getD-take n rs h 0 (omega (arith, q, l))) ∙ z))
+      ∙ getD-take n cs i 0 l
+      )
 
   pub no-share : ((h : ℕ) → h < n → at rs h ≡ k → ⊥) → 0 ≡ share (take n rs) (take n cs) k
   no-share other = sym (share-none (take n rs) (take n cs) k (λ h q z.

@@ -5,10 +5,10 @@ ghost use Rattle.cycle_theory.specs.Method.{within};
 ghost use Rattle.cycle_theory.specs.Walk.{zeros};
 ghost use Rattle.certificate.specs.Rounds.{Begun, Least, Left, Took};
 use crate::Certificate;
+use crate::extending::MOST;
 use crate::ratio::Ratio;
 use crate::ratio::least_ratio;
 use crate::ratio::product;
-use crate::extending::MOST;
 use ledger::Row;
 
 // What is left of a multiple of the question, and the certificate of what was taken.

@@ -35,9 +35,6 @@ over wj yj wn yn wi yi pos h k =
 found-more : (n : ℕ) (w y : ℕ → ℕ) (r : Ratio) → Found n w y r → Found (suc n) w y (lesser r (y n) (w n))
 found-more n w y r (inl t) = subst (λ (q : Ratio). Found (suc n) w y (lesser q (y n) (w n))) (sym (t .1)) (go (eq-zero-or-pos (w n)))
   where
-    none : Ratio
-    none = record { top = 1; bottom = 0 }
-
     go : (w n ≡ 0) ⊎ (0 < w n) → Found (suc n) w y (lesser (record { top = 1; bottom = 0 }) (y n) (w n))
     go (inl e) = inl (
       by-last (λ j. w j ≡ 0) n (t .0) e,
@@ -51,9 +48,6 @@ found-more n w y r (inl t) = subst (λ (q : Ratio). Found (suc n) w y (lesser q 
     )
 found-more n w y r (inr t) = subst (λ (q : Ratio). Found (suc n) w y (lesser q (y n) (w n))) (sym (t .2)) (go (cases-bool (ltb (y n * w t.0) (y t.0 * w n))))
   where
-    here : Ratio
-    here = record { top = y t.0; bottom = w t.0 }
-
     go : (ltb (y n * w t.0) (y t.0 * w n) ≡ true) ⊎ (ltb (y n * w t.0) (y t.0 * w n) ≡ false) → Found (suc n) w y (lesser (record { top = y t.0; bottom = w t.0 }) (y n) (w n))
     go (inl e) =
         let h : y n * w t.0 < y t.0 * w n = ltb-true (y n * w t.0) (y t.0 * w n) e in
@@ -136,7 +130,7 @@ least-ratio row rest = go (found (length row) row rest)
             t .0,
             t .1,
             eq-of-mul-eq-mul-left (gcd a b) (gcd-pos a b (t .1)) ((a / gcd a b) * b) ((b / gcd a b) * a)
-            (omega (arith, ap (λ (m : ℕ). m * b) (top-times a b (t .1)), ap (λ (m : ℕ). m * a) (bottom-times a b (t .1)))),
+                (omega (arith, ap (λ (m : ℕ). m * b) (top-times a b (t .1)), ap (λ (m : ℕ). m * a) (bottom-times a b (t .1)))),
           );
           lowest-terms = λ d m n e f. no-common a b (t .1) d (m, e) (n, f);
         }))

@@ -25,4 +25,3 @@ pub mod WalkingSums
 pub mod Walking
 pub mod WalkingNets
 pub mod WalkingWide
-pub mod WorkedQuestions

@@ -36,7 +36,7 @@ module _ (rows : List Counts) (rest : Counts) where
   chosen-listed h = elim (split (length rows) (firstWithin rest rows)) [
     | inl past ↦
         let e : leastRatio (getD rows (firstWithin rest rows) []) rest .bottom ≡ 0 =
-          ap (λ (row : Counts). leastRatio row rest .bottom) (getD-past rows (firstWithin rest rows) [] past) ∙ no-ratio rest in
+        ap (λ (row : Counts). leastRatio row rest .bottom) (getD-past rows (firstWithin rest rows) [] past) ∙ no-ratio rest in
         omega (arith, e, h)
     | inr lt ↦ lt
   ]
@@ -133,7 +133,7 @@ round-adds rows x w h a =
       one-each = length-addAt k s cs ∙ long;
       sums = λ j.
           let q : p * at (w .rest) j ≡ 1 * at (round rows w .rest) j + s * at (chosen rows w) j =
-            left-combines (chosen rows w) (w .rest) (chosen-within rows (w .rest) listed) (leastRatio (chosen rows w) (w .rest)) (is-least (chosen rows w) (w .rest) h) j in
+          left-combines (chosen rows w) (w .rest) (chosen-within rows (w .rest) listed) (leastRatio (chosen rows w) (w .rest)) (is-least (chosen rows w) (w .rest) h) j in
           omega (arith, q, ap (λ (m : ℕ). p * m) (a .sums j), mixed-add k s cs rows j long listed, mixed-times p (w .coefficients) rows j);
       few =
           let f = round-fewer rows w h in

@@ -3,7 +3,7 @@ use mathlib.Core.Path.{_≡_, ap}
 use mathlib.Core.Bool.{false}
 use mathlib.Core.Logic.{inl, inr}
 use Prim.Native.Nat.{ℕ, _*_, _-_, _<_}
-use native.Mathlib.Nat.{eq-zero-or-pos, mul-pos}
+use native.Mathlib.Nat.{eq-zero-or-pos}
 use native.Mathlib.Omega.{arith}
 use lib.ListN.{length}
 use Rattle.cycle_theory.specs.Nets.{Counts, at, Within}
@@ -32,18 +32,6 @@ pub is-least : (row rest : Counts) → 0 < leastRatio row rest .bottom → Least
 is-least row rest h = elim (least-ratio row rest) [ inl t ↦ absurd (omega (arith, t .1)) | inr l ↦ l ]
 
 module _ (row rest : Counts) (inside : Within row rest) (r : Ratio) (l : LeastRatio row rest r) where
-  -- the ratio is above 0
-  pub top-pos : 0 < r .top
-  top-pos = elim (eq-zero-or-pos (r .top)) [
-    | inl e ↦ omega (
-      arith,
-      mul-pos (l .positive) (inside (l .reached .0) (l .reached .1)),
-      l .reached .2,
-      ap (λ (m : ℕ). m * at row (l .reached .0)) e,
-    )
-    | inr h ↦ h
-  ]
-
   -- nothing is left of the step where the ratio is reached
   pub used-up : at (left (r .bottom) rest (r .top) row) (l .reached .0) ≡ 0
   used-up = omega (arith, at-left (r .bottom) rest (r .top) row (l .reached .0), l .reached .2)

@@ -29,9 +29,6 @@ SameRows [] (v ∷ vs) = ⊥
 SameRows (u ∷ us) [] = ⊥
 SameRows (u ∷ us) (v ∷ vs) = Same u v × SameRows us vs
 
-back : (u v : Counts) → Same u v → Same v u
-back u v e j = sym (e j)
-
 equal-tests : (a b : Bool) → (a ≡ true → b ≡ true) → (b ≡ true → a ≡ true) → a ≡ b
 equal-tests true b f g = sym (f refl)
 equal-tests false true f g = g refl
@@ -90,18 +87,18 @@ least-past (suc m) row rest =
     let b : Ratio = leastTo (m + length row) row rest in
     let z : at row (m + length row) ≡ 0 = at-past row (m + length row) (omega arith) in
     let test : ltb (at rest (m + length row) * b .bottom) (b .top * at row (m + length row)) ≡ false =
-      le-ltb (at rest (m + length row) * b .bottom) (b .top * at row (m + length row)) (omega (arith, ap (λ (c : ℕ). b .top * c) z)) in
+    le-ltb (at rest (m + length row) * b .bottom) (b .top * at row (m + length row)) (omega (arith, ap (λ (c : ℕ). b .top * c) z)) in
     ap (λ (n : ℕ). leastTo n row rest) e
     ∙ cond-false (ltb (at rest (m + length row) * b .bottom) (b .top * at row (m + length row))) (record { top = at rest (m + length row); bottom = at row (m + length row) }) b test
     ∙ least-past m row rest
 
 same-ratio : (row row′ rest rest′ : Counts) → Same row row′ → Same rest rest′ → leastRatio row rest ≡ leastRatio row′ rest′
 same-ratio row row′ rest rest′ e f = ap lowest (
-  sym (least-past (length row′) row rest)
-  ∙ ap (λ (n : ℕ). leastTo n row rest) (omega arith)
-  ∙ same-least (length row + length row′) row row′ rest rest′ e f
-  ∙ least-past (length row) row′ rest′
-)
+    sym (least-past (length row′) row rest)
+    ∙ ap (λ (n : ℕ). leastTo n row rest) (omega arith)
+    ∙ same-least (length row + length row′) row row′ rest rest′ e f
+    ∙ least-past (length row) row′ rest′
+    )
 
 -- a walk
 pub record SameWalk (w v : Walk) : Type 0 where
@@ -160,8 +157,8 @@ same-from (suc k) rows rows′ s w v e =
     let on : Outcome = cond (fits (round rows w)) (walkFrom k rows (round rows w)) tooLarge in
     let on′ : Outcome = cond (fits (round rows′ v)) (walkFrom k rows′ (round rows′ v)) tooLarge in
     let go : on ≡ on′ =
-      ap (λ (b : Bool). cond b (walkFrom k rows (round rows w)) tooLarge) (same-fits (round rows w) (round rows′ v) r)
-      ∙ ap (λ (o : Outcome). cond (fits (round rows′ v)) o tooLarge) (same-from k rows rows′ s (round rows w) (round rows′ v) r) in
+    ap (λ (b : Bool). cond b (walkFrom k rows (round rows w)) tooLarge) (same-fits (round rows w) (round rows′ v) r)
+    ∙ ap (λ (o : Outcome). cond (fits (round rows′ v)) o tooLarge) (same-from k rows rows′ s (round rows w) (round rows′ v) r) in
     ap (λ (b : Bool). cond b (certified (w .multiplier) (w .coefficients)) (cond (eqb (leastRatio (chosen rows w) (w .rest) .bottom) 0) stuck on)) (same-zeros (w .rest) (v .rest) (e .rest))
     ∙ ap (λ (o : Outcome). cond (zeros (v .rest)) o (cond (eqb (leastRatio (chosen rows w) (w .rest) .bottom) 0) stuck on)) (same-certified w v e)
     ∙ ap (λ (q : Ratio). cond (zeros (v .rest)) (certified (v .multiplier) (v .coefficients)) (cond (eqb (q .bottom) 0) stuck on)) (ratio-same rows rows′ s w v e)

@@ -4,4 +4,3 @@ pub mod Theorems
 pub mod Flows
 pub mod Walk
 pub mod Questions
-pub mod WorkedQuestions

@@ -1,6 +1,5 @@
 // The theorems on questions, each asked for by the contract of a small function.
 ghost use Rattle.cycle_theory.specs.Questions.{Ratio-least, Walk-certifies, Walk-ends, Walk-once, Walk-goes-on, Walk-zeros, Outcome-right};
-ghost use Rattle.cycle_theory.specs.WorkedQuestions.{WorkedQuestions};
 
 // The ratio of a round is the least one, in lowest terms.
 pub fn ratio_least() -> u8
@@ -47,13 +46,6 @@ pub fn walk_zeros() -> u8
 // A question is certified, broken or too large: certified or too large exactly where it is a cycle.
 pub fn outcome_right() -> u8
     ensures { λ _. ⌜ Outcome-right ⌝ }
-{
-    0
-}
-
-// Questions worked by the definitions.
-pub fn worked_questions() -> u8
-    ensures { λ _. ⌜ WorkedQuestions ⌝ }
 {
     0
 }

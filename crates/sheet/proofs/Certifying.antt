@@ -83,7 +83,7 @@ module _ {L : Type 0} (k : Kind L) (n : ℕ) (places : List (List ℤ)) (ledger 
   says-right (certified t cs) r = (
     r .0,
     subst (λ (ds : List ℕ). Sums t ds x rows)
-    (sym (ap (λ (m : ℕ). take m (cs ++ drop (length cs) list)) (sym (r .1 .one-each)) ∙ take-front cs (drop (length cs) list))) (r .1),
+        (sym (ap (λ (m : ℕ). take m (cs ++ drop (length cs) list)) (sym (r .1 .one-each)) ∙ take-front cs (drop (length cs) list))) (r .1),
   )
   says-right (broken place) r = r
   says-right tooLarge r = r
@@ -115,7 +115,7 @@ module _ {L : Type 0} (k : Kind L) (n : ℕ) (places : List (List ℤ)) (ledger 
           let h : unbroken places x < length places = omega (arith, u, lt) in
           let at : unbroken places x + 1 ≡ place = let e = b .1 in omega (arith, u, e) in
           let e : o ≡ broken place =
-            cond-true (ltb (unbroken places x) (length places)) (broken (unbroken places x + 1)) (walk rows x) (lt-ltb (unbroken places x) (length places) h) ∙ ap broken at in
+          cond-true (ltb (unbroken places x) (length places)) (broken (unbroken places x + 1)) (walk rows x) (lt-ltb (unbroken places x) (length places) h) ∙ ap broken at in
           record {
             answered = λ g. sym (answered-with g (broken place) e);
             left = λ g. refl;
@@ -153,7 +153,7 @@ module _ {L : Type 0} (k : Kind L) (n : ℕ) (places : List (List ℤ)) (ledger 
         certifying-some c list′ w after =
             let cs : ℕ → List ℕ = λ m. tabulate m (coefficient c) in
             let e : Holds k n places ledger → o ≡ certified (c .multiplier) (cs count) = λ h.
-              walked ∙ walk-held h ∙ w (h .order) ∙ ap (λ (m : ℕ). certified (c .multiplier) (cs m)) (sym (told (h .order))) in
+            walked ∙ walk-held h ∙ w (h .order) ∙ ap (λ (m : ℕ). certified (c .multiplier) (cs m)) (sym (told (h .order))) in
             let long : length (cs count) ≡ count = length-tabulate count (coefficient c) in
             let is′ : list′ ≡ cs count ++ drop (length (cs count)) list = after ∙ ap (λ (m : ℕ). cs count ++ drop m list) (sym long) in
             record {

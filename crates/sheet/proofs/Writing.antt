@@ -41,7 +41,7 @@ pub written-all : (f : ℕ → ℕ) (was xs : List ℕ) (n : ℕ) → n ≤ leng
 written-all f was xs n few w =
     let m : length (tabulate n f) ≡ n = length-tabulate n f in
     let long : length (tabulate n f ++ drop n was) ≡ length was =
-      let a = length-append (tabulate n f) (drop n was) in let b = length-drop n was in omega (arith, a, b, m, few) in
+    let a = length-append (tabulate n f) (drop n was) in let b = length-drop n was in omega (arith, a, b, m, few) in
     equal-rows xs (tabulate n f ++ drop n was) (w .long ∙ sym long) (λ k. elim (split n k) [
       | inl h ↦ w .back k h ∙ sym (at-behind (tabulate n f) was n k m h)
       | inr h ↦ w .front k h ∙ sym (getD-append-left (tabulate n f) (drop n was) 0 k (omega (arith, m, h)) ∙ at-tabulate n f k h)

@@ -32,7 +32,11 @@ impl<L: Ledger> ClosedSheet<L> {
 
 impl<L: Ledger> View<'_, L> {
     // The same, over whatever lends its steps, places and rows.
-    pub(crate) fn certify(&self, question: &[u32], coefficients: &mut [u32]) -> Result<Answer, SheetFault>
+    pub(crate) fn certify(
+        &self,
+        question: &[u32],
+        coefficients: &mut [u32],
+    ) -> Result<Answer, SheetFault>
         ensures { λ r. ⌜ Certifying L·Ledger (now (self .entry) .steps .n) (map effectsOf (now (now (self .entry) .places))) (now (now (self .entry) .rows)) (now (question .entry)) (now (coefficients .entry)) r (now (coefficients .exit)) ⌝ }
     {
         let count = self.rows.len();

@@ -1,4 +1,4 @@
-// Sheets: places are offered to an open sheet, which keeps the minimal cycles of those that it accepted; once closed, it is listed and compared.
+// Sheets: places are offered to an open sheet, which keeps the minimal cycles of those that it accepted; once closed, it is listed, compared and asked for certificates.
 mod answer;
 mod certify;
 mod closed;

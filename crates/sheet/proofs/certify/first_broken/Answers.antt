@@ -18,7 +18,7 @@ loop-i-again c =
 pub returns-then-sum-ne0 : need.returns-then-sum-ne0
 returns-then-sum-ne0 c =
     let stop = broken-here (c .args .places .now) (c .args .counts .now .counts) (c .loop-i .i) (c .loop-i-test .taken) (c .index-places-i .result) (c .index-places-i .is)
-      (λ e. c .if-sum-ne0 .taken (ap (ofZ w64) (c .sum .ensures ∙ e))) in
+    (λ e. c .if-sum-ne0 .taken (ap (ofZ w64) (c .sum .ensures ∙ e))) in
     let l = length-effects (c .args .places .now) in (omega (arith, stop, l, c .loop-i .inv), omega (arith, stop, c .loop-i .inv))
 
 pub returns : need.returns

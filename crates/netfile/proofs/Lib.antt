@@ -1,0 +1,11 @@
+pub mod Buffers
+pub mod Printouts
+pub mod Numbers
+pub mod Verdicts
+pub mod Offers
+pub mod Files
+pub mod Listing
+pub mod Nets
+pub mod Answering
+pub mod Runs
+pub mod Certificates

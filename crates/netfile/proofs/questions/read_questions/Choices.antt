@@ -1,0 +1,10 @@
+use Prim.Native.Nat.{_-_}
+use lib.ListN.{length}
+use Rattle.netfile.proofs.Answering.{Asking}
+use Rattle.netfile.proofs.questions.read_questions.Given as given
+
+abbrev pub Inv-loop-reader : given.InvT-loop-reader
+Inv-loop-reader g l = Asking (g .L·Ledger) (l .entry .reader .file .now) (l .reader .file .now) (l .reader .at) (l .reader .lines) (l .reader .before) (l .reader .questions) (l .sheet) (l .answers .count) (l .answers .judged)
+
+abbrev pub μ-loop-reader : given.MeasureT-loop-reader
+μ-loop-reader g l = length (l .entry .reader .file .now) - l .reader .at
