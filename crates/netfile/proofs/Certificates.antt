@@ -104,12 +104,12 @@ module _ {L : Type 0} (k : Kind L) (c : ClosedSheet L) (rs : List Record) (of : 
       let left : list′ ≡ listAfter (coefficientsIn o) list (Ok (answerOf o)) = told .left sound ∙ ap (listAfter (coefficientsIn o) list) (e ∙ ap Ok (parts .1)) in (
         done,
         ap (λ a. answerLine a (take (length (closedList k c)) list′)) (parts .1)
-        ∙ ap (λ l. answerLine (answerOf o) (take (length l) list′)) listed
-        ∙ ap (λ l. answerLine (answerOf o) (take (length rows) l)) left
-        ∙ tells-outcome n (placesIn c) x o list right
-        ∙ ap (λ y. outcomeLine (outcome (placesIn c) rows y)) whole
-        ∙ ap (λ A. outcomeLine (outcome A rows counts)) (of .places)
-        ∙ ap (λ l. outcomeLine (outcome (placesOf rs) l counts)) (sym listed),
+            ∙ ap (λ l. answerLine (answerOf o) (take (length l) list′)) listed
+            ∙ ap (λ l. answerLine (answerOf o) (take (length rows) l)) left
+            ∙ tells-outcome n (placesIn c) x o list right
+            ∙ ap (λ y. outcomeLine (outcome (placesIn c) rows y)) whole
+            ∙ ap (λ A. outcomeLine (outcome A rows counts)) (of .places)
+            ∙ ap (λ l. outcomeLine (outcome (placesOf rs) l counts)) (sym listed),
       )
 
 -- the line of an answer that is no certificate

@@ -91,11 +91,7 @@ fn open_standing<L: Ledger + Drop>(current: L, spare: L) -> Result<OpenSheet<L>,
 }
 
 // The sheet that the first line of a file opens.
-fn open_line<L: Ledger + Drop>(
-    line: &Line,
-    current: L,
-    spare: L,
-) -> Result<OpenSheet<L>, FileFault>
+fn open_line<L: Ledger + Drop>(line: &Line, current: L, spare: L) -> Result<OpenSheet<L>, FileFault>
     ensures { λ r. ⌜ ((i : ℕ) (of : Record) → Shows i (now (line .entry)) of → rank (mark of) ≡ 0 → AsSheet (answer L·Ledger [] of) (λ sheet. SheetOf L·Ledger sheet (of ∷ [])) r) ⌝ }
 {
     match line.mark {

@@ -14,12 +14,7 @@ pub(crate) enum Pass {
     Writing,
 }
 
-fn put(
-    out: &mut [u8],
-    at: usize,
-    pass: Pass,
-    bytes: &[u8],
-) -> Result<usize, FileFault>
+fn put(out: &mut [u8], at: usize, pass: Pass, bytes: &[u8]) -> Result<usize, FileFault>
     requires { ⌜ at ≤ length (now out) ⌝ }
     ensures { λ r. ⌜ Puts pass r (now (bytes .entry)) at (now (out .entry)) (now (out .exit)) ⌝ }
 {
@@ -35,12 +30,7 @@ fn put(
 }
 
 // A number in decimal.
-fn put_number(
-    out: &mut [u8],
-    at: usize,
-    pass: Pass,
-    n: u64,
-) -> Result<usize, FileFault>
+fn put_number(out: &mut [u8], at: usize, pass: Pass, n: u64) -> Result<usize, FileFault>
     requires { ⌜ at ≤ length (now out) ⌝ }
     ensures { λ r. ⌜ Puts pass r (decimal n) at (now (out .entry)) (now (out .exit)) ⌝ }
 {
@@ -53,12 +43,7 @@ fn put_number(
 }
 
 // One space and the number.
-fn put_field(
-    out: &mut [u8],
-    at: usize,
-    pass: Pass,
-    n: u64,
-) -> Result<usize, FileFault>
+fn put_field(out: &mut [u8], at: usize, pass: Pass, n: u64) -> Result<usize, FileFault>
     requires { ⌜ at ≤ length (now out) ⌝ }
     ensures { λ r. ⌜ Puts pass r (field n) at (now (out .entry)) (now (out .exit)) ⌝ }
 {
@@ -67,12 +52,7 @@ fn put_field(
 }
 
 // Each number, after a space.
-fn put_fields(
-    out: &mut [u8],
-    at: usize,
-    pass: Pass,
-    numbers: &[u64],
-) -> Result<usize, FileFault>
+fn put_fields(out: &mut [u8], at: usize, pass: Pass, numbers: &[u64]) -> Result<usize, FileFault>
     requires { ⌜ at ≤ length (now out) ⌝ }
     ensures { λ r. ⌜ Puts pass r (fields (now (numbers .entry))) at (now (out .entry)) (now (out .exit)) ⌝ }
 {
@@ -84,12 +64,7 @@ fn put_fields(
 }
 
 // The same of counts.
-fn put_counts(
-    out: &mut [u8],
-    at: usize,
-    pass: Pass,
-    numbers: &[u32],
-) -> Result<usize, FileFault>
+fn put_counts(out: &mut [u8], at: usize, pass: Pass, numbers: &[u32]) -> Result<usize, FileFault>
     requires { ⌜ at ≤ length (now out) ⌝ }
     ensures { λ r. ⌜ Puts pass r (fields (now (numbers .entry))) at (now (out .entry)) (now (out .exit)) ⌝ }
 {

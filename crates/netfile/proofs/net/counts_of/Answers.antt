@@ -26,10 +26,10 @@ loop-k-again c =
     let size = c .loop-k .inv .0 in (
       length-set (c .loop-k .counts) k (c .unsigned-abs .result) ∙ size,
       λ long.
-        take-more-set (c .loop-k .counts) k (c .unsigned-abs .result) (omega arith)
-        ∙ ap (λ l. l ++ (c .unsigned-abs .result ∷ [])) (c .loop-k .inv .1 long)
-        ∙ ap (λ n. countsOf (take k fields) ++ (n ∷ [])) (c .unsigned-abs .ensures .value ∙ ap natAbs (toZ-ofZ w32 z fits))
-        ∙ sym (map-more (λ f. natAbs (f .value)) fields k none (omega arith)),
+          take-more-set (c .loop-k .counts) k (c .unsigned-abs .result) (omega arith)
+          ∙ ap (λ l. l ++ (c .unsigned-abs .result ∷ [])) (c .loop-k .inv .1 long)
+          ∙ ap (λ n. countsOf (take k fields) ++ (n ∷ [])) (c .unsigned-abs .ensures .value ∙ ap natAbs (toZ-ofZ w32 z fits))
+          ∙ sym (map-more (λ f. natAbs (f .value)) fields k none (omega arith)),
     )
 
 pub returns : need.returns

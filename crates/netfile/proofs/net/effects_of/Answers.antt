@@ -26,10 +26,10 @@ loop-k-again c =
     let size = c .loop-k .inv .0 in (
       length-set (c .loop-k .effects) k (toZ w32 (ofZ w32 z)) ∙ size,
       λ long.
-        take-more-set (c .loop-k .effects) k (toZ w32 (ofZ w32 z)) (omega arith)
-        ∙ ap (λ l. l ++ (toZ w32 (ofZ w32 z) ∷ [])) (c .loop-k .inv .1 long)
-        ∙ ap (λ (n : ℤ). valuesOf (take k fields) ++ (n ∷ [])) (toZ-ofZ w32 z fits)
-        ∙ sym (map-more (λ (f : Field). f .value) fields k none (omega arith)),
+          take-more-set (c .loop-k .effects) k (toZ w32 (ofZ w32 z)) (omega arith)
+          ∙ ap (λ l. l ++ (toZ w32 (ofZ w32 z) ∷ [])) (c .loop-k .inv .1 long)
+          ∙ ap (λ (n : ℤ). valuesOf (take k fields) ++ (n ∷ [])) (toZ-ofZ w32 z fits)
+          ∙ sym (map-more (λ (f : Field). f .value) fields k none (omega arith)),
     )
 
 pub returns : need.returns
