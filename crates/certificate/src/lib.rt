@@ -1,4 +1,6 @@
 // Certificates: a multiple of a question as a sum of the rows that a ledger holds, made by a walk over the rows.
+#![tactic(auto)]
+
 mod certificate;
 mod extending;
 mod ratio;

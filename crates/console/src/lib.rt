@@ -1,4 +1,6 @@
 // What the programs share: reading an input that may be of any length, and what to print for a net file.
+#![tactic(auto)]
+
 ghost use Rattle.std.specs.Prelude.{◌≤◌, length, IfOk};
 ghost use Rattle.console.specs.Responses.{Responds};
 

@@ -1,4 +1,6 @@
 // The theorems on nets, each asked for by the contract of a small function.
+#![tactic(auto)]
+
 ghost use Rattle.cycle_theory.specs.Theorems.{TssMinimal, TssSums, TssSame, ThirdRow, OnePair, PairNew, TssOrder, OneList, OneNumber, SameSteps, UnitsMinimal, StepMinimal, TssReaches, DivisorGreatest};
 
 pub mod questions;

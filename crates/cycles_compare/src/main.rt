@@ -1,5 +1,7 @@
 // cycles_compare FIRST SECOND: reads two net files, and prints whether they have the same cycles, on ruled and on entry ledgers.
 // Where a file has a fault, the line that tells it stands behind the file's name, and the status is 1.
+#![tactic(auto)]
+
 use anyhow::anyhow;
 use ledger::{EntryLedger, Ledger, RuledLedger};
 use netfile::{read_sheet, write_fault};

@@ -1,5 +1,7 @@
 // cycles_entry: reads a net file from standard input, and prints its minimal cycles and the answers to its questions, on entry ledgers.
 // Where the file has a fault, the one line that tells it is printed instead, and the status is 1.
+#![tactic(auto)]
+
 use anyhow::anyhow;
 use console::{INPUT_BYTES, OUTPUT_BYTES, read_input, respond};
 use ledger::EntryLedger;

@@ -1,4 +1,6 @@
 // One line of a net file: the mark that opens it and its numbers, or the column at which no line can go on.
+#![tactic(auto)]
+
 ghost use Rattle.std.specs.Prelude.{◌∷◌};
 ghost use Rattle.grammar.specs.Text.{letter};
 ghost use Rattle.grammar.specs.Lines.{Answer, Exactly};

@@ -1,4 +1,6 @@
 // What a ledger is: a list of rows behind a few calls, whatever keeps them. Code above is proved from this promise alone.
+#![tactic(auto)]
+
 ghost use Rattle.std.specs.Prelude.{◌≡◌, ℕ, ◌≤◌, List, [], length, sum_by};
 ghost use Rattle.ledger.specs.Rows.{units, WellKept};
 ghost use Rattle.ledger.specs.Calls.{Reads, Uses, Inserts};

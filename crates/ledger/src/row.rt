@@ -1,6 +1,7 @@
 // A row of counts, one for each of 24 steps.
-ghost use Rattle.std.specs.Prelude.{◌≡◌, ◌≤◌, length, replicate, Decides, MatchOption};
+ghost use Rattle.std.specs.Prelude.{◌≡◌, ◌≤◌, length, replicate, Decides, MatchOption, nat_eq};
 ghost use Rattle.ledger.specs.Rows.{Small, Mask, FirstLarge, nonzeros};
+ghost use Rattle.std.specs.Cmp.Lexicographic.{pointwise};
 ghost use Rattle.std.specs.Cmp.Rules.{comparing};
 ghost use Rattle.std.proofs.Common.{rules};
 ghost use Rattle.std.specs.Cmp as Keys;
@@ -12,11 +13,14 @@ pub struct Row {
 
 // Rows are equal where their counts are.
 impl PartialEq for Row {
-    ghost equals = { λ a b r. Decides r (a.counts ≡ b.counts) };
+    ghost eq = { λ a b. pointwise nat_eq a.counts b.counts };
 
     ghost laws = { Keys.partial_equiv_from_equiv (Prim.search (comparing, rules)) };
 
-    fn eq(&self, other: &Row) -> bool {
+    fn eq(&self, other: &Row) -> bool
+        ensures computed { result ≡ pointwise nat_eq self.now.counts other.now.counts }
+        ensures decided { Decides result (self.now.counts ≡ other.now.counts) }
+    {
         self.counts == other.counts
     }
 }

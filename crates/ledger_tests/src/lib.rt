@@ -1,4 +1,6 @@
 // One table of calls with their answers, run on a ledger of each kind; ledgers that are full; rows that go from one kind to the other.
+#![tactic(auto)]
+
 #[cfg(test)]
 mod script;
 

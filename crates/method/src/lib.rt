@@ -1,4 +1,6 @@
 // One place more: from the minimal cycles of a net's places to those with another place.
+#![tactic(auto)]
+
 mod build;
 mod combine;
 mod divide;

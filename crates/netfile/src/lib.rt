@@ -1,4 +1,6 @@
 // A net file's run: the printout of its minimal cycles and of the answers to its questions, or its first fault.
+#![tactic(auto)]
+
 mod fault;
 mod net;
 mod order;

@@ -1,4 +1,6 @@
 // Nets handed over whole: their places in a list.
+#![tactic(auto)]
+
 ghost use Rattle.std.specs.Prelude.{ℕ, ◌⊎◌, map, MatchResult};
 ghost use Rattle.method.specs.Places.{effects_of};
 ghost use Rattle.sheet.specs.Sheets.{Opened};

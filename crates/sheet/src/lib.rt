@@ -1,4 +1,6 @@
 // Sheets: places are offered to an open sheet, which keeps the minimal cycles of those that it accepted; once closed, it is listed, compared and asked for certificates.
+#![tactic(auto)]
+
 mod answer;
 mod certify;
 mod closed;

@@ -1,4 +1,6 @@
 // vectors: runs each net file of data/ on both kinds of ledger, and compares what the programs would print with what they must, byte for byte.
+#![tactic(auto)]
+
 use anyhow::anyhow;
 use console::{OUTPUT_BYTES, respond};
 use ledger::{EntryLedger, Ledger, RuledLedger};

@@ -1,4 +1,6 @@
 // Worked nets as one table, proved entry by entry: the rows are the minimal cycles of the places, and the questions are answered as told.
+#![tactic(auto)]
+
 ghost use Rattle.std.specs.Prelude.{◌≤◌, MatchOption};
 ghost use Rattle.worked.specs.Table.{RightNet, AllRight};
 

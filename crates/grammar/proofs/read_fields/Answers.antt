@@ -18,8 +18,8 @@ here v w p m n x e h = subst (λ u. Next u p m n x) e h
 told : (v w : List ℕ) (p q : ℕ) (t u : Bool) (a : Result ℤ ℕ) → v ≡ w → t ≡ u → Number v p q t a → Number w p q u a
 told v w p q t u a e f h = subst (λ b. Number w p q b a) f (subst (λ s. Number s p q t a) e h)
 
-read : (c : goal.After-put) → Number c.args.rest.now (c.loop-reader.reader.position + 1) c.number.new.self.position (signs c.args.mark) (Ok c.in-ok-value.value)
-read c = told _ _ _ _ _ _ (Ok c.in-ok-value.value) c.loop-reader.invariant.0 c.has-signs.ensures c.in-ok-value.ensures.read
+read : (c : goal.After-put) → Number c.args.rest.now (c.loop-reader.reader.position + 1) c.number.new.self.position (signs c.args.mark) (Ok c.in_ok-value-in-Another.value)
+read c = told _ _ _ _ _ _ (Ok c.in_ok-value-in-Another.value) c.loop-reader.invariant.0 c.has_signs.ensures c.in_ok-value-in-Another.ensures.read
 
 comes : (c : goal.After-put) → Next c.args.rest.now c.loop-reader.reader.position c.args.mark c.loop-reader.line.count Another
 comes c = here _ _ _ c.args.mark c.loop-reader.line.count Another c.loop-reader.invariant.0 c.in-Another.ensures
@@ -44,7 +44,7 @@ loop-reader-preserved c =
     let n = c.loop-reader.line.count in
     let fs = c.loop-reader.line.fields in
     let q = c.number.new.self.position in
-    let z = c.in-ok-value.value in
+    let z = c.in_ok-value-in-Another.value in
     let put = c.put.ensures in
     let next = comes c in
     let on = moved c in
@@ -52,23 +52,23 @@ loop-reader-preserved c =
     let gs : ℤ → List Field = λ v. cond (ltb n 25) (set fs n (record { line = i; column = p + 4; value = v })) fs in
     let same : c.put.new.self.fields ≡ gs z = put.fields ∙ ap gs (to_z-of_z w32 z fits) in
     let so : Sofar i w m q (n + 1) (gs z) = next_so i w m p n fs q z c.loop-reader.invariant.4 c.loop-reader.invariant.2 next.0 next.1 next.2 (read c) in (
-      c.in-ok-value.ensures.bytes ∙ c.loop-reader.invariant.0,
+      c.in_ok-value-in-Another.ensures.bytes ∙ c.loop-reader.invariant.0,
       put.mark ∙ c.loop-reader.invariant.1,
       ap length same ∙ length_put fs n (record { line = i; column = p + 4; value = z }) ∙ c.loop-reader.invariant.2,
       omega arith,
       subst (Sofar i w m q c.put.new.self.count) (sym same) (subst (λ k. Sofar i w m q k (gs z)) (sym put.count) so),
     )
 
-pub returns-in-err-value : goal.returns-in-err-value
-returns-in-err-value c =
+pub returns-in_err-value-in-Another : goal.returns-in_err-value-in-Another
+returns-in_err-value-in-Another c =
     let w = c.args.rest.now in
     let m = c.args.mark in
     let p = c.loop-reader.reader.position in
     let q = c.number.new.self.position in
-    let column = c.in-err-value.field-0.0 in
+    let column = c.in_err-value-in-Another.field-0.0 in
     let next = here _ _ _ c.args.mark c.loop-reader.line.count Another c.loop-reader.invariant.0 c.in-Another.ensures in
-    let law : Number w (p + 1) q (signs m) (Err column) = told _ _ _ q _ _ (Err column) c.loop-reader.invariant.0 c.has-signs.ensures c.in-err-value.ensures.read in
-    let out = err_from_is_err_and c.from-residual.result c.from-residual.ensures.1 in
+    let law : Number w (p + 1) q (signs m) (Err column) = told _ _ _ q _ _ (Err column) c.loop-reader.invariant.0 c.has_signs.ensures c.in_err-value-in-Another.ensures.read in
+    let out = err_from_is_err_and c.from_residual.result c.from_residual.ensures.1 in
     subst (Answer (behind m w) c.args.number) (sym (out.1 ∙ ap Err out.2)) (number_breaks _ w m p c.loop-reader.line.count c.loop-reader.line.fields q column c.loop-reader.invariant.4 next.0 next.1 next.2 law)
 
 pub returns-in-End : goal.returns-in-End

@@ -2,8 +2,8 @@ use Rattle.std.proofs.Common.{◌<◌, length, arith, rules}
 use Rattle.grammar.proofs.Marks.{unlettered, uncolon, opened}
 use Rattle.grammar.proofs.mark.read_mark.Goals as goal
 
-pub returns-in-default-mark-of : goal.returns-in-default-mark-of
-returns-in-default-mark-of c = (unlettered c.args.line.now (λ l. c.in-default-mark-of.ensures), omega arith)
+pub returns-in_default-mark_of : goal.returns-in_default-mark_of
+returns-in_default-mark_of c = (unlettered c.args.line.now (λ l. c.in_default-mark_of.ensures), omega arith)
 
 pub returns-then-b-ne58 : goal.returns-then-b-ne58
 returns-then-b-ne58 c =

@@ -10,7 +10,7 @@ returns-then-charge-left g c p =
     let n = c.len-n.ensures p in
     let inside : c.loop-i.i < length rows = omega (arith, n) in
     let w = charges_within rows c.loop-i.i _ inside (c.in-Ok.ensures p).1 g.M.Ledger.charge in
-    let charge = c.charge-of-charge.ensures in
+    let charge = c.charge_of-charge.ensures in
     let all = c.loop-i.invariant p in
     decides_false (λ fits. omega (arith, w, charge, all))
 
@@ -20,7 +20,7 @@ loop-i-preserved g c p =
     let n = c.len-n.ensures p in
     let inside : c.loop-i.i < length rows = omega (arith, n) in
     let more = charges_more rows c.loop-i.i _ inside (c.in-Ok.ensures p).1 g.M.Ledger.charge in
-    let charge = c.charge-of-charge.ensures in
+    let charge = c.charge_of-charge.ensures in
     let all = c.loop-i.invariant p in
     omega (arith, more, charge, all)
 

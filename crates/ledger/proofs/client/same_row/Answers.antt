@@ -6,4 +6,4 @@ decides_of_equals : (told : Bool) (p q u v : List ℕ) → p ≡ u → q ≡ v �
 decides_of_equals told p q u v first second decides = ((λ yes'. sym first ∙ decides.0 yes' ∙ second), (λ same. decides.1 (first ∙ same ∙ sym second)))
 
 pub returns : goal.returns
-returns g c a b _ _ = decides_of_equals _ _ _ _ _ (c.in-Ok.ensures a).1 (c.in-Ok-read.ensures b).1 c.eq.ensures
+returns g c a b _ _ = decides_of_equals _ _ _ _ _ (c.in-Ok.ensures a).1 (c.in-Ok-read.ensures b).1 c.eq.ensures.decided

@@ -42,8 +42,8 @@ insert-requires c =
     let n = c.loop-step.invariant.0 in
     omega (arith, l, l', w, e, n)
 
-pub overflow-add-next : goal.overflow-add-next
-overflow-add-next c =
+pub overflow_add-next : goal.overflow_add-next
+overflow_add-next c =
     let p = packed_within c.args.row.now.counts c.loop-step.step (omega arith) in
     let w = c.requires.within in
     let r = c.requires.room in

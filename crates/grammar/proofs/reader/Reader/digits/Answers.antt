@@ -9,5 +9,5 @@ loop-value-init c =
 
 pub loop-value-preserved : goal.loop-value-preserved
 loop-value-preserved c =
-    let d = c.in-Some-digit-at.ensures in
+    let d = c.in-Some-digit_at.ensures in
     (omega arith, next_digit c.args.self.now.bytes.now _ _ _ _ d.0 c.loop-value.invariant.1 d.1 d.2 (omega arith) (omega arith), omega arith)

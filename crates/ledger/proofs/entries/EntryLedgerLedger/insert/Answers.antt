@@ -9,7 +9,7 @@ use Rattle.ledger.proofs.Packing.{length_packed}
 use Rattle.ledger.proofs.Unpacking.{length_unpacked, begins_at, charges_are}
 use Rattle.ledger.proofs.Entering.{Entered, sum_entered, length_entered, rows_entered, exact_entered}
 use Rattle.ledger.proofs.entries.EntryLedgerLedger.insert.Goals as goal
-use Rattle.ledger.proofs.entries.EntryLedgerLedger.insert.Goals.{After-insert, at·returns}
+use Rattle.ledger.proofs.entries.EntryLedgerLedger.insert.Goals.{After-insert}
 
 pub returns-then-k-eq0 : goal.returns-then-k-eq0
 returns-then-k-eq0 c =
@@ -70,8 +70,8 @@ entered c =
       spliced = c.pack.ensures.items ∙ ap (λ at. take at ps ++ (packed c.args.row.now.counts 24 ++ drop at ps)) (begins_at sizes c.deref.result.now i c.total-at.result c.deref.ensures.value c.total-at.ensures);
     }
 
-pub invariant-of-self : goal.invariant-of-self
-invariant-of-self c =
+pub invariant_of-self : goal.invariant_of-self
+invariant_of-self c =
     let old = c.args.self.now in
     let sums = sum_entered (entered c) in
     let lengths = length_entered (entered c) in
@@ -87,12 +87,17 @@ invariant-of-self c =
     let t = c.if-len-size.false in
     let rows = c.insert.ensures.capacity in
     let entries = c.pack.ensures.capacity in
-    (omega (arith, sums, lengths, l, l₀, m, m₀, s), (omega (arith, n, lengths, l, l₀, m, m₀, v, a, b, t), (omega (arith, rows, old.rows_room), (omega (arith, entries, old.entries_room), tt))))
+    record {
+      sized = omega (arith, sums, lengths, l, l₀, m, m₀, s);
+      few = omega (arith, n, lengths, l, l₀, m, m₀, v, a, b, t);
+      rows_room = omega (arith, rows, old.rows_room);
+      entries_room = omega (arith, entries, old.entries_room);
+    }
 
 pub returns : goal.returns
 unfolding entry_charge
 returns c =
-    let e = entered (at·returns c).After-insert in
+    let e = entered (goal.at.returns c).After-insert in
     let sizes = vec_items c.args.self.now.sizes in
     let ps = pairs (vec_items c.args.self.now.entries) in
     let n = length_unpacked sizes ps in

@@ -4,7 +4,7 @@ use Rattle.std.proofs.lemmas.List.Sums.{sum_by-take-le}
 use Rattle.ledger.specs.Packed.{pairs, unpacked}
 use Rattle.ledger.proofs.Unpacking.{length_unpacked, size_within, begins_at, row_cut}
 use Rattle.ledger.proofs.entries.EntryLedgerLedger.read.Goals as goal
-use Rattle.ledger.proofs.entries.EntryLedgerLedger.read.Goals.{After-index, at·add-end, at·offset-deref-at, at·part-unpack-end}
+use Rattle.ledger.proofs.entries.EntryLedgerLedger.read.Goals.{After-index}
 
 pub returns-then-k-eq0 : goal.returns-then-k-eq0
 returns-then-k-eq0 c =
@@ -31,14 +31,14 @@ ends_within c =
     let s = c.args.self.now.sized in
     omega (arith, w, d, e, b, s)
 
-pub overflow-add-end : goal.overflow-add-end
-overflow-add-end c = let h = ends_within (at·add-end c).After-index in let f = c.args.self.now.few in omega (arith, h, f)
+pub overflow_add-end : goal.overflow_add-end
+overflow_add-end c = let h = ends_within (goal.at.overflow_add-end c).After-index in let f = c.args.self.now.few in omega (arith, h, f)
 
-pub offset-bounds-deref-at : goal.offset-bounds-deref-at
-offset-bounds-deref-at c = let h = ends_within (at·offset-deref-at c).After-index in let f = c.args.self.now.few in omega (arith, h, f)
+pub offset_bounds-deref-at : goal.offset_bounds-deref-at
+offset_bounds-deref-at c = let h = ends_within (goal.at.offset_bounds-deref-at c).After-index in let f = c.args.self.now.few in omega (arith, h, f)
 
-pub slice-bounds-unpack-end : goal.slice-bounds-unpack-end
-slice-bounds-unpack-end c = let h = ends_within (at·part-unpack-end c).After-index in search rules
+pub slice_bounds-unpack-end : goal.slice_bounds-unpack-end
+slice_bounds-unpack-end c = let h = ends_within (goal.at.slice_bounds-unpack-end c).After-index in search rules
 
 pub returns : goal.returns
 returns c _ =

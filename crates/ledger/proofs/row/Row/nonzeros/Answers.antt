@@ -7,7 +7,7 @@ use Rattle.ledger.proofs.row.Row.nonzeros.Goals.{then-count-ne0, else-count-ne0}
 pub loop-count-preserved : goal.loop-count-preserved
 loop-count-preserved c =
     let row = c.args.self.now.counts in
-    let i = c.loop-count.count_index in
+    let i = c.loop-count.count-index in
     let inside : i < length row = search rules in
     elim c.if-count-ne0.branch [
       | then-count-ne0 w ↦
@@ -23,7 +23,7 @@ returns c =
     let row = c.args.self.now.counts in
     let wide : length row ≡ 24 = search rules in
     record {
-      value = c.loop-count.invariant.0 ∙ ap nonzeros (take_all c.loop-count.count_index row (omega arith));
+      value = c.loop-count.invariant.0 ∙ ap nonzeros (take_all c.loop-count.count-index row (omega arith));
       wide = wide;
       bound = omega arith;
     }
