@@ -9,15 +9,15 @@ use Rattle.nets.proofs.offer_each.Goals as goal
 pub loop-place-init : goal.loop-place-init
 loop-place-init g c n o = reached_none g.L.Ledger n (map effects_of c.args.places.now) c.args.sheet.now o
 
-pub returns-in-err-offer : goal.returns-in-err-offer
-returns-in-err-offer g c n o =
+pub returns-in_err-offer : goal.returns-in_err-offer
+returns-in_err-offer g c n o =
     let places = c.args.places.now in
     let i = c.loop-place.place-index in
     let below : i < length (map effects_of places) = omega (arith, length-map places effects_of, c.loop-place-test.true) in
     let is : c.effects.result.now ≡ get_or (map effects_of places) i [] =
     c.effects.ensures ∙ ap (λ (x : Place). effects_of x) c.place-item.is ∙ sym (get_or-map effects_of places i c.place-item.result [] c.loop-place-test.true) in
-    let p = err_from_is_err_and c.from-residual.result c.from-residual.ensures.1 in
-    let stop = reached_stop g.L.Ledger n (map effects_of places) i c.loop-place.sheet c.offer.new.self c.effects.result.now (c.loop-place.invariant n o) is below _ c.in-err-offer.ensures in
+    let p = err_from_is_err_and c.from_residual.result c.from_residual.ensures.1 in
+    let stop = reached_stop g.L.Ledger n (map effects_of places) i c.loop-place.sheet c.offer.new.self c.effects.result.now (c.loop-place.invariant n o) is below _ c.in_err-offer.ensures in
     rw (p.1, p.2) stop
 
 pub loop-place-preserved : goal.loop-place-preserved
@@ -27,7 +27,7 @@ loop-place-preserved g c n o =
     let below : i < length (map effects_of places) = omega (arith, length-map places effects_of, c.loop-place-test.true) in
     let is : c.effects.result.now ≡ get_or (map effects_of places) i [] =
     c.effects.ensures ∙ ap (λ (x : Place). effects_of x) c.place-item.is ∙ sym (get_or-map effects_of places i c.place-item.result [] c.loop-place-test.true) in
-    reached_more g.L.Ledger n (map effects_of places) i c.loop-place.sheet c.offer.new.self c.effects.result.now (c.loop-place.invariant n o) is below c.in-ok-offer.ensures
+    reached_more g.L.Ledger n (map effects_of places) i c.loop-place.sheet c.offer.new.self c.effects.result.now (c.loop-place.invariant n o) is below c.in_ok-offer.ensures
 
 pub returns : goal.returns
 returns g c n o =

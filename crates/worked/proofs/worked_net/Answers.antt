@@ -4,5 +4,5 @@ use Rattle.worked.proofs.worked_net.Goals as goal
 
 pub returns : goal.returns
 returns c =
-    let held : c.args.k < length c.worked-nets-nets.result = search rules in
-    c.worked-nets-nets.ensures.each _ (mem_get_or _ _ _ held)
+    let held : c.args.k < length c.worked_nets-nets.result = search rules in
+    c.worked_nets-nets.ensures.each _ (mem_get_or _ _ _ held)

@@ -6,8 +6,8 @@ use Rattle.certificate.proofs.round.left.Goals as goal
 pub loop-j-init : goal.loop-j-init
 loop-j-init c = let long : length c.zeros-after.result.counts ≡ 24 = search rules in filled_none _ _ long
 
-pub overflow-sub-count : goal.overflow-sub-count
-overflow-sub-count c = let h = c.requires c.loop-j.j c.loop-j-test.true in omega (arith, h)
+pub overflow_sub-count : goal.overflow_sub-count
+overflow_sub-count c = let h = c.requires c.loop-j.j c.loop-j-test.true in omega (arith, h)
 
 pub loop-j-preserved : goal.loop-j-preserved
 loop-j-preserved c =

@@ -6,9 +6,9 @@ use Rattle.method.proofs.combine.combine_rows.Goals as goal
 
 pub returns : goal.returns
 returns c =
-    let x = c.weighted-sum-counts.result in
-    let w = c.divided-by.result in
+    let x = c.weighted_sum-counts.result in
+    let w = c.divided_by.result in
     let lx : length x ≡ 24 = search rules in
     let lw : length w ≡ 24 = search rules in
-    let is : w ≡ divided x = is_divided x w c.max-by.result lx lw (c.max-by.ensures ∙ ap (λ (d : ℕ). max d 1) c.row-divisor.ensures) c.divided-by.ensures in
-    subst (λ (z : List ℕ). Fitted z c.fitted.result) (is ∙ ap divided c.weighted-sum-counts.ensures) c.fitted.ensures
+    let is : w ≡ divided x = is_divided x w c.max-by.result lx lw (c.max-by.ensures ∙ ap (λ (d : ℕ). max d 1) c.row_divisor.ensures) c.divided_by.ensures in
+    subst (λ (z : List ℕ). Fitted z c.fitted.result) (is ∙ ap divided c.weighted_sum-counts.ensures) c.fitted.ensures

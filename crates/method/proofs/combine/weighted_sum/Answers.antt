@@ -3,20 +3,20 @@ use Rattle.std.proofs.lemmas.Nat.{mul-le}
 use Rattle.method.proofs.Dividing.{is_weighted}
 use Rattle.method.proofs.combine.weighted_sum.Goals as goal
 
-pub overflow-mul-counts : goal.overflow-mul-counts
-overflow-mul-counts c =
-    let m = mul-le c.args.r (get_or c.args.u.now.counts c.loop-j.j 0) (2 ^ 35) 1048575 (omega arith) (c.requires.u-small c.loop-j.j c.loop-j-test.true) in
+pub overflow_mul-counts : goal.overflow_mul-counts
+overflow_mul-counts c =
+    let m = mul-le c.args.r (get_or c.args.u.now.counts c.loop-j.j 0) (2 ^ 35) 1048575 (omega arith) (c.requires.u_small c.loop-j.j c.loop-j-test.true) in
     omega (arith, m)
 
-pub overflow-mul-counts-in-loop-j : goal.overflow-mul-counts-in-loop-j
-overflow-mul-counts-in-loop-j c =
-    let m = mul-le c.args.s (get_or c.args.v.now.counts c.loop-j.j 0) (2 ^ 35) 1048575 (omega arith) (c.requires.v-small c.loop-j.j c.loop-j-test.true) in
+pub overflow_mul-counts-in-loop-j : goal.overflow_mul-counts-in-loop-j
+overflow_mul-counts-in-loop-j c =
+    let m = mul-le c.args.s (get_or c.args.v.now.counts c.loop-j.j 0) (2 ^ 35) 1048575 (omega arith) (c.requires.v_small c.loop-j.j c.loop-j-test.true) in
     omega (arith, m)
 
-pub overflow-add-counts : goal.overflow-add-counts
-overflow-add-counts c =
-    let m = mul-le c.args.r (get_or c.args.u.now.counts c.loop-j.j 0) (2 ^ 35) 1048575 (omega arith) (c.requires.u-small c.loop-j.j c.loop-j-test.true) in
-    let n = mul-le c.args.s (get_or c.args.v.now.counts c.loop-j.j 0) (2 ^ 35) 1048575 (omega arith) (c.requires.v-small c.loop-j.j c.loop-j-test.true) in
+pub overflow_add-counts : goal.overflow_add-counts
+overflow_add-counts c =
+    let m = mul-le c.args.r (get_or c.args.u.now.counts c.loop-j.j 0) (2 ^ 35) 1048575 (omega arith) (c.requires.u_small c.loop-j.j c.loop-j-test.true) in
+    let n = mul-le c.args.s (get_or c.args.v.now.counts c.loop-j.j 0) (2 ^ 35) 1048575 (omega arith) (c.requires.v_small c.loop-j.j c.loop-j-test.true) in
     omega (arith, m, n)
 
 pub returns : goal.returns

@@ -2,8 +2,8 @@ use Rattle.std.proofs.Common.{◌+◌, ◌-◌, ◌/◌, ◌<◌, length, sym, a
 use Rattle.method.proofs.Placing.{turn_right, turn_left}
 use Rattle.method.proofs.order.position.Goals as goal
 
-pub loop-low-preserved-then-comes-before : goal.loop-low-preserved-then-comes-before
-loop-low-preserved-then-comes-before g c =
+pub loop-low-preserved-then-comes_before : goal.loop-low-preserved-then-comes_before
+loop-low-preserved-then-comes_before g c =
     let low = c.loop-low.low in
     let high = c.loop-low.high in
     let mid = low + (high - low) / 2 in
@@ -15,7 +15,7 @@ loop-low-preserved-then-comes-before g c =
           let i = c.loop-low.invariant.2 o asc in
           let h = i.0 in
           let inside : mid < length rows = omega (arith, lt, h) in
-          (i.0, turn_right rows c.args.row.now.counts _ mid asc inside (c.row-at.ensures.is o inside) (sym c.if-comes-before.ensures), i.2),
+          (i.0, turn_right rows c.args.row.now.counts _ mid asc inside (c.row_at.ensures.is o inside) (sym c.if-comes_before.ensures), i.2),
     )
 
 pub loop-low-preserved : goal.loop-low-preserved
@@ -32,5 +32,5 @@ loop-low-preserved g c =
           let i = c.loop-low.invariant.2 o asc in
           let h = i.0 in
           let inside : mid < length rows = omega (arith, lt, h) in
-          (omega (arith, inside), i.1, turn_left rows c.args.row.now.counts _ mid asc inside (c.row-at.ensures.is o inside) (sym c.if-comes-before.ensures)),
+          (omega (arith, inside), i.1, turn_left rows c.args.row.now.counts _ mid asc inside (c.row_at.ensures.is o inside) (sym c.if-comes_before.ensures)),
     )

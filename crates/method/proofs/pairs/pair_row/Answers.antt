@@ -17,11 +17,11 @@ returns g c p A ready adjacent =
     let hb = c.requires.second in
     let u = row_at rows a in
     let v = row_at rows b in
-    let eu : c.row-at.result.counts ≡ u = c.row-at.ensures.is ready.order (omega (arith, many, ha)) in
-    let ev : c.row-at-2.result.counts ≡ v = c.row-at-2.ensures.is ready.order (omega (arith, many, hb)) in
-    let es : c.unsigned-abs-s.result ≡ surplus (sum p u) =
-    c.unsigned-abs-s.ensures.value ∙ ap nat_abs (stored _ (s.bounded a ha) ∙ ready.surveyed.told.sums_are a ha) ∙ surplus_is (sum p u) adjacent.gains in
-    let er : c.unsigned-abs-r.result ≡ deficit (sum p v) =
-    c.unsigned-abs-r.ensures.value ∙ ap nat_abs (stored _ (s.bounded b hb) ∙ ready.surveyed.told.sums_are b hb) ∙ deficit_is (sum p v) adjacent.loses in
-    let is : divided (weighted c.unsigned-abs-r.result c.row-at.result.counts c.unsigned-abs-s.result c.row-at-2.result.counts) ≡ divided (combined p u v) = cc in
-    subst (λ (z : List ℕ). Fitted z c.combine-rows.result) is c.combine-rows.ensures
+    let eu : c.row_at.result.counts ≡ u = c.row_at.ensures.is ready.order (omega (arith, many, ha)) in
+    let ev : c.row_at-2.result.counts ≡ v = c.row_at-2.ensures.is ready.order (omega (arith, many, hb)) in
+    let es : c.unsigned_abs-s.result ≡ surplus (sum p u) =
+    c.unsigned_abs-s.ensures.value ∙ ap nat_abs (stored _ (s.bounded a ha) ∙ ready.surveyed.told.sums_are a ha) ∙ surplus_is (sum p u) adjacent.gains in
+    let er : c.unsigned_abs-r.result ≡ deficit (sum p v) =
+    c.unsigned_abs-r.ensures.value ∙ ap nat_abs (stored _ (s.bounded b hb) ∙ ready.surveyed.told.sums_are b hb) ∙ deficit_is (sum p v) adjacent.loses in
+    let is : divided (weighted c.unsigned_abs-r.result c.row_at.result.counts c.unsigned_abs-s.result c.row_at-2.result.counts) ≡ divided (combined p u v) = cc in
+    subst (λ (z : List ℕ). Fitted z c.combine_rows.result) is c.combine_rows.ensures

@@ -17,11 +17,11 @@ loop-k-preserved c =
     let z : ℤ = (get_or fields k none).value in
     let fits : SFits w32 z = search rules in
     let size = c.loop-k.invariant.0 in (
-      length-set c.loop-k.counts k c.unsigned-abs.result ∙ size,
+      length-set c.loop-k.counts k c.unsigned_abs.result ∙ size,
       λ long.
-          take_more_set c.loop-k.counts k c.unsigned-abs.result (omega arith)
-          ∙ ap (λ l. l ++ (c.unsigned-abs.result ∷ [])) (c.loop-k.invariant.1 long)
-          ∙ ap (λ n. counts_of (take k fields) ++ (n ∷ [])) (c.unsigned-abs.ensures.value ∙ ap nat_abs (to_z-of_z w32 z fits))
+          take_more_set c.loop-k.counts k c.unsigned_abs.result (omega arith)
+          ∙ ap (λ l. l ++ (c.unsigned_abs.result ∷ [])) (c.loop-k.invariant.1 long)
+          ∙ ap (λ n. counts_of (take k fields) ++ (n ∷ [])) (c.unsigned_abs.ensures.value ∙ ap nat_abs (to_z-of_z w32 z fits))
           ∙ sym (map_more (λ f. nat_abs f.value) fields k none (omega arith)),
     )
 

@@ -6,21 +6,21 @@ use Rattle.netfile.proofs.Numbers.{effects_held}
 use Rattle.netfile.proofs.Offers.{as_refused, offer_answer, offer_accepted}
 use Rattle.netfile.proofs.net.offer_line.Goals as goal
 
-pub returns-in-err-offer : goal.returns-in-err-offer
-returns-in-err-offer g c i rs effects shows of =
+pub returns-in_err-offer : goal.returns-in_err-offer
+returns-in_err-offer g c i rs effects shows of =
     let line = c.args.line.now in
     let size : c.held.result - 0 ≡ c.held.result = omega arith in
-    let front : take (c.held.result - 0) c.effects-of-effects.result ≡ take 25 effects =
-    ap (λ n. take n c.effects-of-effects.result) (size ∙ c.held.ensures.value) ∙ ap (take _) (c.effects-of-effects.ensures shows.wide) ∙ effects_held i line effects shows.wide shows
+    let front : take (c.held.result - 0) c.effects_of-effects.result ≡ take 25 effects =
+    ap (λ n. take n c.effects_of-effects.result) (size ∙ c.held.ensures.value) ∙ ap (take _) (c.effects_of-effects.ensures shows.wide) ∙ effects_held i line effects shows.wide shows
     in
-    let out = err_from_is_err_and c.from-residual.result c.from-residual.ensures.1 in
-    as_refused _ _ _ _ _ out.1 out.2 (sym (offer_answer _ _ _ rs effects _ _ front of c.offer.ensures) ∙ c.in-err-offer.was)
+    let out = err_from_is_err_and c.from_residual.result c.from_residual.ensures.1 in
+    as_refused _ _ _ _ _ out.1 out.2 (sym (offer_answer _ _ _ rs effects _ _ front of c.offer.ensures) ∙ c.in_err-offer.was)
 
 pub returns : goal.returns
 returns g c i rs effects shows of =
     let line = c.args.line.now in
     let size : c.held.result - 0 ≡ c.held.result = omega arith in
-    let front : take (c.held.result - 0) c.effects-of-effects.result ≡ take 25 effects =
-    ap (λ n. take n c.effects-of-effects.result) (size ∙ c.held.ensures.value) ∙ ap (take _) (c.effects-of-effects.ensures shows.wide) ∙ effects_held i line effects shows.wide shows
+    let front : take (c.held.result - 0) c.effects_of-effects.result ≡ take 25 effects =
+    ap (λ n. take n c.effects_of-effects.result) (size ∙ c.held.ensures.value) ∙ ap (take _) (c.effects_of-effects.ensures shows.wide) ∙ effects_held i line effects shows.wide shows
     in
-    (sym (offer_answer _ _ _ rs effects _ _ front of c.offer.ensures) ∙ c.in-ok-offer.was, offer_accepted _ _ _ rs effects _ _ front of c.offer.ensures c.in-ok-offer.was)
+    (sym (offer_answer _ _ _ rs effects _ _ front of c.offer.ensures) ∙ c.in_ok-offer.was, offer_accepted _ _ _ rs effects _ _ front of c.offer.ensures c.in_ok-offer.was)

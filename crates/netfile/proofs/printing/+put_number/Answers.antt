@@ -17,11 +17,11 @@ returns-then-n-lt10 t c =
     let rest : n % 10 ≡ n = omega arith in
     subst (λ (d : List ℕ). Puts c.args.pass c.put.result d c.args.at c.args.out.now c.put.new.out) (ap (λ (d : ℕ). (48 + d) ∷ []) rest ∙ sym (decimal_digit n c.if-n-lt10.true)) c.put.ensures
 
-pub returns-in-err-end : goal.returns-in-err-end
-returns-in-err-end t c =
-    let out = err_from_is_err_and c.from-residual.result c.from-residual.ensures.1 in
-    by_digits _ _ c.args.n _ _ _ (omega arith) (omega arith) (puts_none _ _ _ _ _ _ _ _ _ out.1 out.2 c.in-err-end.ensures)
+pub returns-in_err-end : goal.returns-in_err-end
+returns-in_err-end t c =
+    let out = err_from_is_err_and c.from_residual.result c.from_residual.ensures.1 in
+    by_digits _ _ c.args.n _ _ _ (omega arith) (omega arith) (puts_none _ _ _ _ _ _ _ _ _ out.1 out.2 c.in_err-end.ensures)
 
 pub returns : goal.returns
 returns t c =
-    by_digits _ _ c.args.n _ _ _ (omega arith) (omega arith) (puts_both _ _ _ _ _ _ _ _ _ c.in-ok-end.ensures c.put-2.ensures)
+    by_digits _ _ c.args.n _ _ _ (omega arith) (omega arith) (puts_both _ _ _ _ _ _ _ _ _ c.in_ok-end.ensures c.put-2.ensures)

@@ -7,5 +7,5 @@ use Rattle.netfile.proofs.printout.print.Goals as goal
 
 pub returns : goal.returns
 returns g c =
-    wrote_all (sheet_text (closed_list g.L.Ledger c.args.sheet.now) c.args.answers.now) _ c.put-printout-2.result c.args.out.now c.put-printout.new.out c.put-printout-2.new.out
-    c.in-ok-put-printout.ensures c.put-printout-2.ensures
+    wrote_all (sheet_text (closed_list g.L.Ledger c.args.sheet.now) c.args.answers.now) _ c.put_printout-2.result c.args.out.now c.put_printout.new.out c.put_printout-2.new.out
+    c.in_ok-put_printout.ensures c.put_printout-2.ensures

@@ -9,5 +9,5 @@ pub returns-in-Certified : goal.returns-in-Certified
 returns-in-Certified c =
     let coefficients = c.args.judged.now.coefficients in
     let whole : c.args.rows - 0 ≡ c.args.rows = omega arith in
-    subst (λ (a : Answer). Puts c.args.pass c.put-line.result (answer_line a (take c.args.rows coefficients)) c.args.at c.args.out.now c.put-line.new.out) (sym c.in-Certified.is)
-    (subst (λ (n : ℕ). Puts c.args.pass c.put-line.result (line (codes "A:") (c.in-Certified.multiplier ∷ take n coefficients)) c.args.at c.args.out.now c.put-line.new.out) whole c.put-line.ensures)
+    subst (λ (a : Answer). Puts c.args.pass c.put_line.result (answer_line a (take c.args.rows coefficients)) c.args.at c.args.out.now c.put_line.new.out) (sym c.in-Certified.is)
+    (subst (λ (n : ℕ). Puts c.args.pass c.put_line.result (line (codes "A:") (c.in-Certified.multiplier ∷ take n coefficients)) c.args.at c.args.out.now c.put_line.new.out) whole c.put_line.ensures)

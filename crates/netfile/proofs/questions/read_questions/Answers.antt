@@ -15,8 +15,8 @@ use Rattle.netfile.proofs.Nets.{at_fault, refused_line}
 use Rattle.netfile.proofs.Answering.{asking_start, asked_line, room_for, asking_next, asking_end, answered_few, few_steps_closed}
 use Rattle.netfile.proofs.questions.read_questions.Goals as goal
 
-pub next-line-requires : goal.next-line-requires
-next-line-requires g c =
+pub next_line-requires : goal.next_line-requires
+next_line-requires g c =
     let inv = c.loop-reader.invariant in
     let x = c.loop-reader.reader in
     record {
@@ -33,8 +33,8 @@ add-requires g c =
     let inv = c.loop-reader.invariant in
     let s = c.args.reader.now.file.now in
     let x = c.loop-reader.reader in
-    let l = c.in-ok-line.line in
-    let told : ReadAs (drop x.at s) (x.lines + 1) l × May x.before x.questions l.mark = subst (λ f. ReadAs (drop x.at f) (x.lines + 1) l × May x.before x.questions l.mark) inv.same c.in-ok-line.ensures.told in
+    let l = c.in_ok-line.line in
+    let told : ReadAs (drop x.at s) (x.lines + 1) l × May x.before x.questions l.mark = subst (λ f. ReadAs (drop x.at f) (x.lines + 1) l × May x.before x.questions l.mark) inv.same c.in_ok-line.ensures.told in
     room_for g.L.Ledger s x.file.now x.at x.lines x.before x.questions c.args.sheet.now c.loop-reader.answers.count c.loop-reader.answers.judged inv l told.0 told.1
 
 pub loop-reader-preserved : goal.loop-reader-preserved
@@ -43,9 +43,9 @@ loop-reader-preserved g c =
     let inv = c.loop-reader.invariant in
     let s = c.args.reader.now.file.now in
     let x = c.loop-reader.reader in
-    let y = c.next-line.new.self in
-    let l = c.in-ok-line.line in
-    let read = c.in-ok-line.ensures in
+    let y = c.next_line.new.self in
+    let l = c.in_ok-line.line in
+    let read = c.in_ok-line.ensures in
     let count = c.loop-reader.answers.count in
     let judged = c.loop-reader.answers.judged in
     let sheet = c.args.sheet.now in
@@ -60,8 +60,8 @@ loop-reader-smaller g c =
     let inv = c.loop-reader.invariant in
     let s = c.args.reader.now.file.now in
     let x = c.loop-reader.reader in
-    let l = c.in-ok-line.line in
-    let read = c.in-ok-line.ensures in
+    let l = c.in_ok-line.line in
+    let read = c.in_ok-line.ensures in
     let t : ReadAs (drop x.at s) (x.lines + 1) l = subst (λ f. ReadAs (drop x.at f) (x.lines + 1) l) inv.same read.told.0 in
     let far = upto_further g.L.Ledger s x.at x.lines x.before x.questions inv.records inv.upto l t in
     let on = read.goes.at_is in
@@ -69,15 +69,15 @@ loop-reader-smaller g c =
     let same = ap length inv.same in
     omega arith
 
-pub returns-in-err-line : goal.returns-in-err-line
-returns-in-err-line g c =
+pub returns-in_err-line : goal.returns-in_err-line
+returns-in_err-line g c =
     let k = g.L.Ledger in
     let inv = c.loop-reader.invariant in
     let s = c.args.reader.now.file.now in
     let x = c.loop-reader.reader in
-    let f = c.in-err-line.field-0.0 in
-    let read = c.in-err-line.ensures in
-    let out = err_from_is_err_and c.from-residual.result c.from-residual.ensures.1 in
+    let f = c.in_err-line.field-0.0 in
+    let read = c.in_err-line.ensures in
+    let out = err_from_is_err_and c.from_residual.result c.from_residual.ensures.1 in
     let told : LineAnswer (drop x.at s) (x.lines + 1) x.before x.questions (Err f) = subst (λ w. LineAnswer (drop x.at w) (x.lines + 1) x.before x.questions (Err f)) inv.same read.told in
     record {
       room = answered_few k inv.upto inv.counted;
@@ -90,8 +90,8 @@ returns-in-Err g c =
     let inv = c.loop-reader.invariant in
     let s = c.args.reader.now.file.now in
     let x = c.loop-reader.reader in
-    let l = c.in-ok-line.line in
-    let read = c.in-ok-line.ensures in
+    let l = c.in_ok-line.line in
+    let read = c.in_ok-line.ensures in
     let sheet = c.args.sheet.now in
     let fault = c.in-Err.fault in
     let told : ReadAs (drop x.at s) (x.lines + 1) l × May x.before x.questions l.mark = subst (λ f. ReadAs (drop x.at f) (x.lines + 1) l × May x.before x.questions l.mark) inv.same read.told in
@@ -102,7 +102,7 @@ returns-in-Err g c =
       room = answered_few k inv.upto inv.counted;
       read = refused_line k s x.at x.lines x.before x.questions inv.records inv.upto (few_steps_closed k sheet inv.records inv.sheet_is) l told.0 told.1 made fault
           (subst (λ r. AsSheet (answer k inv.records r) made (Err fault)) (sym q.1) says)
-          c.line-number.result (c.line-number.ensures ∙ read.goes.lines_is) c.fault-in.result c.fault-in.ensures;
+          c.line_number.result (c.line_number.ensures ∙ read.goes.lines_is) c.fault_in.result c.fault_in.ensures;
     }
 
 pub returns : goal.returns

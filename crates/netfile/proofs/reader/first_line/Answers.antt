@@ -9,11 +9,11 @@ returns-in-Err c =
     let b = c.in-Err.ensures in
     (refl, (c.requires.some, λ m o. absurd (no_mark c.args.rest.now _ m b.0 b.1 o.0 o.1), b.0))
 
-pub returns-in-Ok-read-line : goal.returns-in-Ok-read-line
-returns-in-Ok-read-line c =
+pub returns-in-Ok-read_line : goal.returns-in-Ok-read_line
+returns-in-Ok-read_line c =
     let s = c.args.rest.now in
-    let l = c.in-Ok-read-line.line in
-    let t = c.in-Ok-read-line.ensures.told in
+    let l = c.in-Ok-read_line.line in
+    let t = c.in-Ok-read_line.ensures.told in
     let o = begins_mark s t.of l.end t.begins in
     let m : c.in-Ok.opening.mark ≡ l.mark = same_mark s c.in-Ok.opening.mark (mark t.of) (ap (take 2) c.in-Ok.ensures) o.1 ∙ sym t.shows.marked in
-    (t, subst (May c.args.before c.args.questions) m c.in-Ok-in-order.ensures)
+    (t, subst (May c.args.before c.args.questions) m c.in-Ok-in_order.ensures)

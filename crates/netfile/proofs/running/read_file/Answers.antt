@@ -9,12 +9,12 @@ use Rattle.netfile.proofs.running.read_file.Goals as goal
 pub returns-then-file-eq0 : goal.returns-then-file-eq0
 returns-then-file-eq0 g c = record { room = omega (arith, c.requires.empty); read = (omega arith, no_line g.L.Ledger c.args.file.now (omega arith)) }
 
-pub read-questions-requires : goal.read-questions-requires
-read-questions-requires g c =
+pub read_questions-requires : goal.read_questions-requires
+read_questions-requires g c =
     let k = g.L.Ledger in
-    let sheet = c.in-ok-sheet.sheet in
-    let net = c.in-ok-sheet.ensures in
-    let y = c.read-net.new.reader in
+    let sheet = c.in_ok-sheet.sheet in
+    let net = c.in_ok-sheet.ensures in
+    let y = c.read_net.new.reader in
     record {
       read = subst (λ s. NetRead k s y.at y.lines y.before y.questions sheet) (sym net.file) net.read;
       few = few_rows k sheet g.met.L.Ledger.positive g.met.L.Ledger.high (g.met.L.Ledger.kept sheet.rows net.read.sheet_is.sound.order);
@@ -22,35 +22,35 @@ read-questions-requires g c =
       wide = c.requires.wide;
     }
 
-pub returns-in-err-sheet : goal.returns-in-err-sheet
-returns-in-err-sheet g c =
+pub returns-in_err-sheet : goal.returns-in_err-sheet
+returns-in_err-sheet g c =
     let k = g.L.Ledger in
     let s = c.args.file.now in
-    let out = err_from_is_err_and c.from-residual.result c.from-residual.ensures.1 in
-    let f = c.in-err-sheet.field-0.0 in
-    let first : FirstFault k s f = subst (λ w. FirstFault k w f) c.new-reader.ensures.file c.in-err-sheet.ensures.read in
-    record { room = omega (arith, c.requires.empty); read = unread_passed k s _ c.from-residual.result _ f out.1 out.2 (unread k s f (omega arith) first) }
+    let out = err_from_is_err_and c.from_residual.result c.from_residual.ensures.1 in
+    let f = c.in_err-sheet.field-0.0 in
+    let first : FirstFault k s f = subst (λ w. FirstFault k w f) c.new-reader.ensures.file c.in_err-sheet.ensures.read in
+    record { room = omega (arith, c.requires.empty); read = unread_passed k s _ c.from_residual.result _ f out.1 out.2 (unread k s f (omega arith) first) }
 
-pub returns-in-err-read-questions : goal.returns-in-err-read-questions
-returns-in-err-read-questions g c =
+pub returns-in_err-read_questions : goal.returns-in_err-read_questions
+returns-in_err-read_questions g c =
     let k = g.L.Ledger in
     let s = c.args.file.now in
-    let out = err_from_is_err_and c.from-residual-in-err-read-questions.result c.from-residual-in-err-read-questions.ensures.1 in
-    let f = c.in-err-read-questions.field-0.0 in
-    let same = c.in-ok-sheet.ensures.file ∙ c.new-reader.ensures.file in
-    let first : FirstFault k s f = subst (λ w. FirstFault k w f) same c.in-err-read-questions.ensures.read in
+    let out = err_from_is_err_and c.from_residual-in_err-read_questions.result c.from_residual-in_err-read_questions.ensures.1 in
+    let f = c.in_err-read_questions.field-0.0 in
+    let same = c.in_ok-sheet.ensures.file ∙ c.new-reader.ensures.file in
+    let first : FirstFault k s f = subst (λ w. FirstFault k w f) same c.in_err-read_questions.ensures.read in
     record {
-      room = c.in-err-read-questions.ensures.room;
-      read = unread_passed k s _ c.from-residual-in-err-read-questions.result _ f out.1 out.2 (unread k s f (omega arith) first);
+      room = c.in_err-read_questions.ensures.room;
+      read = unread_passed k s _ c.from_residual-in_err-read_questions.result _ f out.1 out.2 (unread k s f (omega arith) first);
     }
 
 pub returns : goal.returns
 returns g c =
     let k = g.L.Ledger in
-    let sheet = c.in-ok-sheet.sheet in
-    let same = c.in-ok-sheet.ensures.file ∙ c.new-reader.ensures.file in
-    let answers = c.read-questions.new.answers in
+    let sheet = c.in_ok-sheet.sheet in
+    let same = c.in_ok-sheet.ensures.file ∙ c.new-reader.ensures.file in
+    let answers = c.read_questions.new.answers in
     record {
-      room = c.in-ok-read-questions.ensures.room;
-      read = (omega arith, subst (λ w. FileRead k w sheet (take answers.count answers.judged)) same c.in-ok-read-questions.ensures.read);
+      room = c.in_ok-read_questions.ensures.room;
+      read = (omega arith, subst (λ w. FileRead k w sheet (take answers.count answers.judged)) same c.in_ok-read_questions.ensures.read);
     }

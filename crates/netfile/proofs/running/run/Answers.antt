@@ -9,26 +9,26 @@ use Rattle.netfile.proofs.running.run.Goals as goal
 
 pub print-requires : goal.print-requires
 print-requires g c =
-    let sheet = c.in-ok-sheet.sheet in
-    let sound = c.in-ok-sheet.ensures.read.1.sheet_is.sound in
+    let sheet = c.in_ok-sheet.sheet in
+    let sound = c.in_ok-sheet.ensures.read.1.sheet_is.sound in
     record { sound = sound; few = few_rows g.L.Ledger sheet g.met.L.Ledger.positive g.met.L.Ledger.high (g.met.L.Ledger.kept sheet.rows sound.order) }
 
-pub returns-in-err-sheet : goal.returns-in-err-sheet
-returns-in-err-sheet g c =
+pub returns-in_err-sheet : goal.returns-in_err-sheet
+returns-in_err-sheet g c =
     let k = g.L.Ledger in
     let s = c.args.file.now in
     let was = c.args.out.now in
-    let out = err_from_is_err_and c.from-residual.result c.from-residual.ensures.1 in
-    let f = c.in-err-sheet.field-0.0 in
-    let ran : Ran k s was c.from-residual.result was = ran_faulty k s was was c.from-residual.result _ f out.1 out.2 (faulty k s was f c.in-err-sheet.ensures.read) refl in
-    record { ran = ran; only = only_run k s was c.from-residual.result was ran }
+    let out = err_from_is_err_and c.from_residual.result c.from_residual.ensures.1 in
+    let f = c.in_err-sheet.field-0.0 in
+    let ran : Ran k s was c.from_residual.result was = ran_faulty k s was was c.from_residual.result _ f out.1 out.2 (faulty k s was f c.in_err-sheet.ensures.read) refl in
+    record { ran = ran; only = only_run k s was c.from_residual.result was ran }
 
 pub returns-in-Ok : goal.returns-in-Ok
 returns-in-Ok g c =
     let k = g.L.Ledger in
     let s = c.args.file.now in
-    let sheet = c.in-ok-sheet.sheet in
-    let whole = c.in-ok-sheet.ensures.read in
+    let sheet = c.in_ok-sheet.sheet in
+    let whole = c.in_ok-sheet.ensures.read in
     let read : FileRead k s sheet c.all.result.now = subst (FileRead k s sheet) (sym c.all.ensures) whole.1 in
     let was = c.args.out.now in
     let is = c.print.new.out in
@@ -40,11 +40,11 @@ pub returns : goal.returns
 returns g c =
     let k = g.L.Ledger in
     let s = c.args.file.now in
-    let sheet = c.in-ok-sheet.sheet in
-    let whole = c.in-ok-sheet.ensures.read in
+    let sheet = c.in_ok-sheet.sheet in
+    let whole = c.in_ok-sheet.ensures.read in
     let read : FileRead k s sheet c.all.result.now = subst (FileRead k s sheet) (sym c.all.ensures) whole.1 in
     let was = c.args.out.now in
     let is = c.print.new.out in
-    let f = c.fault-of.result in
-    let ran : Ran k s was (Err f) is = too_short k s sheet c.all.result.now read was c.in-Err.fault is f whole.0 c.in-Err.ensures c.fault-of.ensures in
+    let f = c.fault_of.result in
+    let ran : Ran k s was (Err f) is = too_short k s sheet c.all.result.now read was c.in-Err.fault is f whole.0 c.in-Err.ensures c.fault_of.ensures in
     record { ran = ran; only = only_run k s was (Err f) is ran }

@@ -6,6 +6,6 @@ returns-in-Some c = asked_large c.args.steps c.args.rows c.args.question.now c.a
 
 pub returns : goal.returns
 returns c = (
-  asked_all c.args.steps c.args.rows c.args.question.now c.args.entries c.requires c.if-question-steps.false c.if-entries-rows.false _ c.widened-counts.ensures c.in-default.ensures,
+  asked_all c.args.steps c.args.rows c.args.question.now c.args.entries c.requires c.if-question-steps.false c.if-entries-rows.false _ c.widened-counts.ensures c.in_default.ensures,
   c.widened-counts.ensures,
 )

@@ -7,7 +7,7 @@ loop-i-init c = omega arith
 
 pub loop-i-preserved : goal.loop-i-preserved
 loop-i-preserved c =
-    let e : c.sum.result ≡ pos 0 = stored_zero c.sum.result (record { sfits = c.sum.type-inv }) c.if-sum-ne0.false in
+    let e : c.sum.result ≡ pos 0 = stored_zero c.sum.result (record { sfits = c.sum.type_inv }) c.if-sum-ne0.false in
     let step = holds_here c.args.places.now c.args.counts.now.counts c.loop-i.i c.loop-i-test.true c.index-places-i.result c.index-places-i.is (sym c.sum.ensures ∙ e) in
     omega (arith, step, c.loop-i.invariant)
 

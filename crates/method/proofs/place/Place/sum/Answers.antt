@@ -9,8 +9,8 @@ bounds-row-j c =
     let few = front_few place.effects place.count place.few place.mild c.effects-effects.result.now c.effects-effects.ensures in
     omega (arith, few)
 
-pub overflow-mul-total : goal.overflow-mul-total
-overflow-mul-total c =
+pub overflow_mul-total : goal.overflow_mul-total
+overflow_mul-total c =
     let place = c.args.self.now in
     let p = c.effects-effects.result.now in
     let x = c.args.row.now.counts in
@@ -19,8 +19,8 @@ overflow-mul-total c =
     let small : get_or x c.loop-j.j 0 < 2 ^ 32 = search rules in
     product_fits p x c.loop-j.j few c.loop-j-test.true mild small
 
-pub overflow-add-total : goal.overflow-add-total
-overflow-add-total c =
+pub overflow_add-total : goal.overflow_add-total
+overflow_add-total c =
     let place = c.args.self.now in
     let p = c.effects-effects.result.now in
     let x = c.args.row.now.counts in

@@ -8,12 +8,12 @@ pub returns-then-self-ge-MOST-PLACES : goal.returns-then-self-ge-MOST-PLACES
 returns-then-self-ge-MOST-PLACES g c =
     let s = c.args.self.now in
     let many = places_many s.count s.places (omega (arith, s.table, s.room)) in
-    full_told (steps_of s) (places_of s) c.args.effects.now (c.if-effects-get.false ∙ c.get.ensures) c.in-ok-place.ensures.1 (omega (arith, many, c.if-self-ge-MOST-PLACES.true))
+    full_told (steps_of s) (places_of s) c.args.effects.now (c.if-effects-get.false ∙ c.get.ensures) c.in_ok-place.ensures.1 (omega (arith, many, c.if-self-ge-MOST-PLACES.true))
 
 pub returns : goal.returns
 returns g c =
     let s = c.args.self.now in
     let many = places_many s.count s.places (omega (arith, s.table, s.room)) in (
-      passes (steps_of s) (places_of s) c.args.effects.now (c.if-effects-get.false ∙ c.get.ensures) c.in-ok-place.ensures.1 (omega (arith, many, c.if-self-ge-MOST-PLACES.false)),
-      c.in-ok-place.ensures.2,
+      passes (steps_of s) (places_of s) c.args.effects.now (c.if-effects-get.false ∙ c.get.ensures) c.in_ok-place.ensures.1 (omega (arith, many, c.if-self-ge-MOST-PLACES.false)),
+      c.in_ok-place.ensures.2,
     )
