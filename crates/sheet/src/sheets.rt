@@ -2,7 +2,6 @@
 ghost use Rattle.std.specs.Prelude.{◌≡◌, ◌≤◌, length};
 
 use crate::StepCount;
-use ledger::Ledger;
 use method::Place;
 
 // The most places that a sheet accepts.
@@ -10,7 +9,7 @@ pub(crate) const MOST_PLACES: usize = 32;
 
 // A sheet that takes places: the accepted ones in their order, the rows that they leave in the current ledger, and a spare one for the next rows.
 #[derive(Drop)]
-pub struct OpenSheet<L: Ledger> {
+pub struct OpenSheet<L> {
     pub(crate) steps: StepCount,
     pub(crate) count: usize,
     pub(crate) places: [Place; MOST_PLACES],
@@ -22,7 +21,7 @@ pub struct OpenSheet<L: Ledger> {
 
 // A sheet that takes no more places, with the places and the rows that it was closed with.
 #[derive(Drop)]
-pub struct ClosedSheet<L: Ledger> {
+pub struct ClosedSheet<L> {
     pub(crate) steps: StepCount,
     pub(crate) count: usize,
     pub(crate) places: [Place; MOST_PLACES],

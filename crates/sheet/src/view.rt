@@ -7,7 +7,7 @@ use ledger::{Ledger, same_rows};
 use method::Place;
 
 #[derive(Drop)]
-pub(crate) struct View<'a, L: Ledger> {
+pub(crate) struct View<'a, L> {
     pub(crate) steps: StepCount,
     pub(crate) places: &'a [Place],
     pub(crate) rows: &'a L,

@@ -8,7 +8,7 @@ returns g c =
     record {
       steps = refl;
       places = place_more s.count s.places c.args.place (omega (arith, s.table, c.requires));
-      current = c.swap.ensures.x-after;
+      current = c.swap.ensures.x_after;
       spare_order = c.clear.ensures.order;
       spare_empty = c.clear.ensures.empty;
     }
