@@ -21,7 +21,7 @@ returns-in_err-sheet g c =
     let out = err_from_is_err_and c.from_residual.result c.from_residual.ensures.1 in
     let f = c.in_err-sheet.field-0.0 in
     let ran : Ran k s was c.from_residual.result was = ran_faulty k s was was c.from_residual.result _ f out.1 out.2 (faulty k s was f c.in_err-sheet.ensures.read) refl in
-    record { ran = ran; only = only_run k s was c.from_residual.result was ran }
+    record { ran = ran; only = only_run k s was c.from_residual.result was refl ran }
 
 pub returns-in-Ok : goal.returns-in-Ok
 returns-in-Ok g c =
@@ -34,7 +34,7 @@ returns-in-Ok g c =
     let is = c.print.new.out in
     let n = c.in-Ok.length in
     let ran : Ran k s was (Ok n) is = ran_well k s sheet c.all.result.now read was n is whole.0 c.in-Ok.ensures in
-    record { ran = ran; only = only_run k s was (Ok n) is ran }
+    record { ran = ran; only = only_run k s was (Ok n) is c.print.auto.out ran }
 
 pub returns : goal.returns
 returns g c =
@@ -47,4 +47,4 @@ returns g c =
     let is = c.print.new.out in
     let f = c.fault_of.result in
     let ran : Ran k s was (Err f) is = too_short k s sheet c.all.result.now read was c.in-Err.fault is f whole.0 c.in-Err.ensures c.fault_of.ensures in
-    record { ran = ran; only = only_run k s was (Err f) is ran }
+    record { ran = ran; only = only_run k s was (Err f) is c.print.auto.out ran }
