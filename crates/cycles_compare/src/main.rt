@@ -27,7 +27,7 @@ fn sheet_of<L: Ledger + Drop>(
         Err(fault) => {
             let mut line = [0u8; 128];
             let length = write_fault(&fault, &mut line).unwrap_or(0).min(128);
-            print!(rt, "{name}: ")?;
+            print!(rt; "{name}: ")?;
             rt.stdout().write_all(&line[0..length])?;
             Err(anyhow!("a net file has a fault"))
         }
