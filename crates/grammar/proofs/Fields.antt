@@ -1,19 +1,18 @@
 -- A line that is read up to some field, and each way on from there. Assumes nothing.
-use Rattle.std.proofs.Common.{◌≡◌, ℕ, suc, ◌+◌, ◌-◌, ◌<◌, ◌≤◌, Bool, true, false, cond, not, eqb, ltb, leb, ◌≢◌, ◌⊎◌, List, [], ◌∷◌, ◌++◌, reverse, length, get_or, take, set, ℤ, pos, negsuc, Some, None, Ok, Err, sym, refl, ap, ◌∙◌, subst, inl, inr, append_assoc, arith}
+use Rattle.std.proofs.Common.{◌≡◌, ℕ, suc, ◌+◌, ◌-◌, ◌<◌, ◌≤◌, Bool, true, false, cond, not, ltb, ◌⊎◌, List, [], ◌∷◌, ◌++◌, reverse, length, get_or, take, set, ℤ, pos, negsuc, None, Ok, Err, sym, refl, ap, ◌∙◌, subst, inl, inr, append_assoc, arith}
 use Rattle.std.specs.Fmt.{signed_decimal}
 use Rattle.std.specs.List.{flat_map}
-use Rattle.std.proofs.lemmas.Bool.{cond-true, cond-false, eq-eqb, ne_eqb, le-ltb, lt-ltb, lt-leb, le-leb, and_left, and_right, and_parts, leb-true, cases_eq, cases_Bool, cases_lt, false≢true}
+use Rattle.std.proofs.lemmas.Bool.{cond-true, cond-false, eq-eqb, ne_eqb, le-ltb, lt-ltb, lt-leb, and_left, and_right, cases_eq, cases_Bool, cases_lt}
 use Rattle.std.proofs.lemmas.Bool.Decides.{nat_tests}
-use Rattle.std.proofs.lemmas.List.{take_more, length-append, length-reverse, length-set, length-take-le, reverse-reverse, take-append-le, take_at, take_all, get_or_append_left, get_or_at, get_or-set_same, get_or-set_other, reverse-append}
+use Rattle.std.proofs.lemmas.List.{take_more, length-append, length-reverse, length-set, length-take-le, reverse-reverse, take-append-le, take_at, get_or_append_left, get_or_at, get_or-set_same, get_or-set_other, reverse-append}
 use Rattle.grammar.specs.declared.mark.Mark.{Mark}
 use Rattle.grammar.specs.declared.mark.Mark.TheVariants.{Steps, Standing, Place, Question}
 use Rattle.grammar.specs.declared.line.Field.{Field}
-use Rattle.grammar.specs.declared.line.Line.{Line}
-use Rattle.grammar.specs.Text.{letter, field, text, numbers, mark}
+use Rattle.grammar.specs.Text.{letter, field}
 use Rattle.grammar.specs.Lines.{Broken, Held, field_in, ReadAs}
-use Rattle.grammar.specs.Reading.{NoDigit, Full, FullZ, MinusOnly, Number, room_at, enough_at, signs}
-use Rattle.grammar.proofs.Machine.{State, resting, spaced, minus, ended, more, enough, when, is_digit, grown, step, Signed}
-use Rattle.grammar.proofs.Lines.{back, front, Fit, back_onto, Ended, whole, ended_text, break_rest, break_spaced, break_minus}
+use Rattle.grammar.specs.Reading.{NoDigit, FullZ, MinusOnly, Number, room_at, enough_at, signs}
+use Rattle.grammar.proofs.Machine.{resting, spaced, minus, more, enough, is_digit, grown, step, Signed}
+use Rattle.grammar.proofs.Lines.{back, Fit, back_onto, whole, ended_text, break_rest, break_spaced, break_minus}
 
 room_more : (m : Mark) (xs : List ℤ) → room_at m (length xs) ≡ more m xs
 room_more Steps [] = refl

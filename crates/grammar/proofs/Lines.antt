@@ -1,16 +1,15 @@
 -- From the machine to what is written: where a line can go on, and where none can.
-use Rattle.std.proofs.Common.{◌≡◌, ℕ, zero, suc, ◌+◌, ◌-◌, ◌<◌, ◌≤◌, Bool, true, false, ◌⊎◌, List, [], ◌∷◌, ◌++◌, map, reverse, length, get_or, take, drop, ℤ, pos, negsuc, nat_abs, Some, None, Ok, Err, decimal, Option, Result, sym, refl, ap, ◌∙◌, subst, inl, inr, append_assoc, arith}
+use Rattle.std.proofs.Common.{◌≡◌, ℕ, ◌+◌, ◌<◌, ◌≤◌, true, List, [], ◌∷◌, ◌++◌, map, reverse, length, get_or, take, drop, ℤ, pos, negsuc, nat_abs, Some, None, Ok, Err, decimal, Option, Result, sym, refl, ap, ◌∙◌, subst, inl, inr, append_assoc, arith}
 use mathlib.Core.List.{reverse_aux}
-use Rattle.std.specs.Fmt.{signed_decimal}
 use Rattle.std.specs.List.{flat_map, AllByRecursion as All}
 use Rattle.std.proofs.lemmas.Bool.{false≢true, cases_order, cases_lt}
 use Rattle.std.proofs.lemmas.Fmt.{decimal_digit}
-use Rattle.std.proofs.lemmas.List.{take_more, append-nil, reverse-reverse, take-append-drop, take-take, take_at, length-append, length-take-le}
+use Rattle.std.proofs.lemmas.List.{take_more, append-nil, reverse-reverse, take-append-drop, take-take, length-append, length-take-le}
 use Rattle.grammar.specs.declared.mark.Mark.{Mark}
 use Rattle.grammar.specs.declared.mark.Mark.TheVariants.{Steps, Standing, Place, Question}
 use Rattle.grammar.specs.Text.{Record, steps, standing, place, question, mark, numbers, letter, field, text, Short, Right}
 use Rattle.grammar.specs.declared.line.Line.{Line}
-use Rattle.grammar.specs.Lines.{Viable, GoesOn, Breaks, Begins, Broken, Shows, ReadAs, Answer, Told, Exactly, OneWay, Apart, OneBreak}
+use Rattle.grammar.specs.Lines.{Viable, GoesOn, Breaks, Begins, Broken, Shows, Answer, Told, Exactly, OneWay, Apart, OneBreak}
 use Rattle.grammar.specs.Reading.{signs}
 use Rattle.grammar.proofs.Machine.{State, start, lettered, resting, spaced, minus, ended, more, enough, when, step, and_then, goes, goes_on, Signed, reads_field}
 

@@ -1,12 +1,12 @@
 -- A line that breaks in its mark, or goes on behind it.
-use Rattle.std.proofs.Common.{◌≡◌, ℕ, ◌-◌, ◌<◌, eqb, List, [], ◌∷◌, ◌++◌, length, get_or, take, drop, Some, None, sym, refl, ap, ◌∙◌, arith}
+use Rattle.std.proofs.Common.{◌≡◌, ℕ, ◌-◌, ◌<◌, eqb, List, [], ◌∷◌, ◌++◌, length, get_or, take, drop, None, sym, refl, ap, ◌∙◌, arith}
 use Rattle.std.proofs.lemmas.Bool.{cond-false, ne_eqb}
 use Rattle.std.proofs.lemmas.List.{take_more, take_rest, take-append-drop}
 use Rattle.grammar.specs.declared.mark.Mark.{Mark}
 use Rattle.grammar.specs.declared.mark.Mark.TheVariants.{Steps, Standing, Place, Question}
 use Rattle.grammar.specs.Text.{letter}
 use Rattle.grammar.specs.Lines.{Broken, Opened}
-use Rattle.grammar.proofs.Machine.{start, lettered, step}
+use Rattle.grammar.proofs.Machine.{start, step}
 use Rattle.grammar.proofs.Lines.{break_start, break_letter}
 
 start_stuck : (b : ℕ) → ((m : Mark) → b ≡ letter m → ⊥) → step start b ≡ None

@@ -1,9 +1,8 @@
 -- What the digits that were read are. Assumes nothing.
-use Rattle.std.proofs.Common.{◌≡◌, ℕ, suc, ◌+◌, ◌-◌, ◌*◌, ◌/◌, ◌%◌, ◌<◌, ◌≤◌, Bool, true, ◌⊎◌, List, [], ◌∷◌, ◌++◌, length, get_or, take, ℤ, pos, negsuc, Some, None, Ok, Err, decimal, sym, refl, ap, ◌∙◌, subst, inl, inr, append_assoc, arith}
-use Rattle.std.specs.Fmt.{signed_decimal}
+use Rattle.std.proofs.Common.{◌≡◌, ℕ, suc, ◌+◌, ◌-◌, ◌*◌, ◌/◌, ◌%◌, ◌<◌, ◌≤◌, true, List, [], ◌∷◌, ◌++◌, length, get_or, take, negsuc, Some, Ok, decimal, sym, refl, ap, ◌∙◌, inl, inr, append_assoc, arith}
 use Rattle.std.proofs.lemmas.Fmt.{decimal_digit, decimal_step}
 use Rattle.std.proofs.lemmas.List.{take_more, length-take-le, length-append, get_or-take, get_or_at}
-use Rattle.grammar.specs.Reading.{NoDigit, Full, FullZ, Digits, Number}
+use Rattle.grammar.specs.Reading.{Digits, Number}
 
 pub first_digit : (s : List ℕ) (p d : ℕ) → p < length s → get_or s p 0 ≡ 48 + d → d < 10 → take (p + 1) s ≡ take p s ++ decimal d
 first_digit s p d h e small = take_more s p 0 h ∙ ap (λ l. take p s ++ l) (ap (λ b. b ∷ []) e ∙ sym (decimal_digit d small))

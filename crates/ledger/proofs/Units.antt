@@ -1,5 +1,5 @@
 -- The unit rows, one after another: each may be held, and all fit. Calls on a ledger that are not refused.
-use Rattle.std.proofs.Common.{◌≡◌, ℕ, zero, suc, ◌+◌, ◌-◌, ◌<◌, ◌≤◌, List, [], ◌∷◌, ◌++◌, length, take, drop, replicate, Err, sum_by, Result, sym, ap, ◌∙◌, arith, length-set, take_all}
+use Rattle.std.proofs.Common.{◌≡◌, ℕ, zero, suc, ◌+◌, ◌-◌, ◌<◌, ◌≤◌, List, [], ◌∷◌, ◌++◌, length, take, drop, replicate, Err, sum_by, sym, ap, ◌∙◌, arith, length-set, take_all}
 use Rattle.std.specs.List.{insert, AllByRecursion as All}
 use Rattle.std.proofs.ByRecursion.{All-get_or, All-set}
 use Rattle.std.proofs.lemmas.List.Sums.{sum_by-take-le}

@@ -1,8 +1,8 @@
 -- The questions of a file, put to its closed sheet line by line.
-use Rattle.std.proofs.Common.{◌≡◌, ℕ, ◌+◌, ◌<◌, ◌≤◌, true, false, List, [], ◌∷◌, ◌++◌, map, length, take, drop, set, ℤ, Some, Ok, Err, Option, sym, refl, ap, ◌∙◌, subst, arith}
+use Rattle.std.proofs.Common.{◌≡◌, ℕ, ◌+◌, ◌<◌, ◌≤◌, true, List, [], ◌∷◌, ◌++◌, map, length, take, drop, set, ℤ, Some, Ok, Option, sym, refl, ap, ◌∙◌, subst, arith}
 use Rattle.std.specs.List.{flat_map}
 use Rattle.std.proofs.lemmas.Bool.{false≢true}
-use Rattle.std.proofs.lemmas.List.{take_more_set, length-set, map-append, append-nil}
+use Rattle.std.proofs.lemmas.List.{take_more_set, length-set, map-append}
 use Rattle.ledger.specs.declared.Ledger.{Ghosts as Kind}
 use Rattle.cycle_theory.specs.Walk.{outcome}
 use Rattle.sheet.specs.declared.sheets.ClosedSheet.{ClosedSheet}

@@ -1,5 +1,5 @@
 -- A question of a line, and the answer that the sheet gives to it.
-use Rattle.std.proofs.Common.{◌≡◌, ℕ, ◌<◌, ◌≤◌, cond, not, eqb, ltb, List, [], ◌∷◌, ◌++◌, length, take, drop, ℤ, Ok, Err, codes, Result, sym, refl, ap, ◌∙◌, subst, inl, inr, arith}
+use Rattle.std.proofs.Common.{◌≡◌, ℕ, ◌≤◌, cond, not, eqb, ltb, List, [], ◌∷◌, length, take, drop, ℤ, Ok, Err, codes, Result, sym, refl, ap, ◌∙◌, subst, inl, inr, arith}
 use Rattle.std.proofs.lemmas.Bool.{cond-true, cond-false, ne_eqb, le-ltb, cases_lt, cases_eq}
 use Rattle.std.proofs.lemmas.List.{take_all, take_at, length-take-le}
 use Rattle.ledger.specs.declared.Ledger.{Ghosts as Kind}
@@ -18,7 +18,6 @@ use Rattle.sheet.specs.Sheets.{closed_list, places_in}
 use Rattle.sheet.specs.Answers.{answer_number, answer_place, answer_of, coefficients_in}
 use Rattle.sheet.specs.Certifying.{large, first_large, asking, unless_refused, list_after, Certifying}
 use Rattle.grammar.specs.Text.{Record}
-use Rattle.netfile.specs.declared.questions.Judged.{Judged}
 use Rattle.netfile.specs.Files.{steps_of, places_of, asked}
 use Rattle.netfile.specs.Printouts.{line, outcome_line}
 use Rattle.netfile.specs.Reading.{ClosedOf, answer_line, judged_line}

@@ -1,5 +1,5 @@
 -- A file that is read up to a line, and each way on from there.
-use Rattle.std.proofs.Common.{◌≡◌, ℕ, ◌+◌, ◌-◌, ◌<◌, ◌≤◌, min, Bool, true, false, cond, ◌&&◌, eqb, ltb, leb, ◌⊎◌, List, [], ◌∷◌, ◌++◌, length, get_or, take, drop, pos, Some, None, Ok, Err, Option, sym, refl, ap, ◌∙◌, subst, inl, inr, arith}
+use Rattle.std.proofs.Common.{◌≡◌, ℕ, ◌+◌, ◌-◌, ◌<◌, ◌≤◌, Bool, true, false, ◌&&◌, ltb, leb, ◌⊎◌, List, [], ◌∷◌, ◌++◌, length, get_or, take, drop, pos, Some, Ok, Err, Option, sym, ap, ◌∙◌, subst, inl, inr, arith}
 use Rattle.std.specs.List.{flat_map}
 use Rattle.std.proofs.lemmas.List.{take-append-drop, take-take, drop-take, take_all, length-take-le, length-drop, length-append}
 use Rattle.std.proofs.lemmas.Bool.{cond-true, cond-false, cases_Bool, cases_lt, and_parts, leb-true, ltb-true, le-leb, lt-leb}
@@ -15,8 +15,8 @@ use Rattle.netfile.specs.declared.fault.FileFault.{FileFault}
 use Rattle.netfile.specs.declared.fault.FileFault.TheVariants.{BufferTooShort, Grammar, Order, TooLong, TooManyQuestions, Sheet}
 use Rattle.netfile.specs.declared.fault.RunFault.{RunFault}
 use Rattle.netfile.specs.Order.{asks, May, nearest, questions}
-use Rattle.netfile.specs.Files.{written, answer, Accepted, LineFault, column_of, Refused, Why, FirstFault, RightFile}
-use Rattle.netfile.specs.Reading.{Upto, Advanced, place_in, held_in, Located}
+use Rattle.netfile.specs.Files.{written, answer, Accepted, LineFault, column_of, Why, FirstFault, RightFile}
+use Rattle.netfile.specs.Reading.{Upto, Advanced, place_in, held_in}
 
 -- a line has some bytes
 some_bytes : (s : List ℕ) (r : Record) (k : ℕ) → Begins s r k → 2 < k

@@ -1,5 +1,5 @@
 -- The rows that a closed sheet lists.
-use Rattle.std.proofs.Common.{◌≡◌, ℕ, ◌+◌, ◌-◌, ◌<◌, ◌≤◌, Bool, false, not, ◌&&◌, ltb, leb, List, [], ◌∷◌, ◌++◌, map, length, get_or, take, drop, Ok, Err, sum_by, sym, refl, ap, ◌∙◌, subst, arith}
+use Rattle.std.proofs.Common.{◌≡◌, ℕ, ◌+◌, ◌-◌, ◌<◌, ◌≤◌, not, List, [], ◌∷◌, ◌++◌, map, length, get_or, take, drop, Ok, sum_by, ap, ◌∙◌, subst, arith}
 use Rattle.std.proofs.lemmas.Bool.{cond-false, and_from, le-leb, le-ltb}
 use Rattle.std.proofs.lemmas.List.{take_at, length-map}
 use Rattle.std.proofs.lemmas.List.Sums.{sum_by-cons}
@@ -10,7 +10,7 @@ use Rattle.cycle_theory.proofs.Theorems.{tss_minimal}
 use Rattle.cycle_theory.proofs.FirstFailing.{mem_get_or}
 use Rattle.sheet.specs.declared.sheets.ClosedSheet.{ClosedSheet}
 use Rattle.sheet.specs.Verdict.{Outcome}
-use Rattle.sheet.specs.Sheets.{SoundClosed, closed_list, listed, places_in, reading, out_after, ReadRow}
+use Rattle.sheet.specs.Sheets.{SoundClosed, closed_list, places_in, reading, out_after, ReadRow}
 use Rattle.sheet.proofs.Listing.{narrowed}
 
 module _ {L : Type 0} (k : Kind L) (c : ClosedSheet L) (sound : SoundClosed k c) where

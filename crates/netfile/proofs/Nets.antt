@@ -1,7 +1,6 @@
 -- The net of a file, read line by line into a sheet.
-use Rattle.std.proofs.Common.{◌≡◌, ℕ, ◌+◌, ◌<◌, ◌≤◌, true, eqb, List, [], ◌∷◌, length, take, drop, ℤ, None, Ok, Err, Option, Result, sym, refl, ap, ◌∙◌, subst, arith, MatchResult}
+use Rattle.std.proofs.Common.{◌≡◌, ℕ, ◌+◌, ◌<◌, ◌≤◌, List, [], ◌∷◌, length, take, drop, ℤ, None, Ok, Err, Option, Result, sym, refl, ap, ◌∙◌, subst, arith, MatchResult}
 use Rattle.std.proofs.lemmas.Bool.{eqb-true}
-use Rattle.std.proofs.lemmas.List.{length-drop}
 use Rattle.ledger.specs.declared.Ledger.{Ghosts as Kind}
 use Rattle.sheet.specs.declared.fault.SheetFault.{SheetFault}
 use Rattle.sheet.specs.declared.sheets.OpenSheet.{OpenSheet}
@@ -10,7 +9,7 @@ use Rattle.grammar.specs.declared.mark.Mark.{Mark}
 use Rattle.grammar.specs.declared.mark.Mark.TheVariants.{Place}
 use Rattle.grammar.specs.declared.line.Line.{Line}
 use Rattle.grammar.specs.Text.{Record, steps, standing, place, question, mark}
-use Rattle.grammar.specs.Lines.{ReadAs, Opens, Shows}
+use Rattle.grammar.specs.Lines.{ReadAs, Opens}
 use Rattle.grammar.proofs.Lines.{same_mark, begins_mark}
 use Rattle.netfile.specs.declared.fault.FileFault.{FileFault}
 use Rattle.netfile.specs.declared.fault.FileFault.TheVariants.{BufferTooShort, Grammar, Order, TooLong, TooManyQuestions, Sheet}

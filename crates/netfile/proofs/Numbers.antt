@@ -1,9 +1,9 @@
 -- The numbers that a line holds are those of its record.
-use Rattle.std.proofs.Common.{◌≡◌, ℕ, ◌+◌, ◌<◌, ◌≤◌, min, List, [], ◌∷◌, ◌++◌, map, length, get_or, take, ℤ, pos, nat_abs, sym, refl, ap, ◌∙◌, arith}
+use Rattle.std.proofs.Common.{◌≡◌, ℕ, ◌+◌, ◌<◌, min, List, [], ◌∷◌, ◌++◌, map, length, get_or, take, ℤ, pos, nat_abs, sym, refl, ap, ◌∙◌, arith}
 use Rattle.std.proofs.lemmas.List.{take_more, map-append, length-map, length-take, get_or-take, get_or-map, ext_get_or}
 use Rattle.grammar.specs.declared.line.Field.{Field}
 use Rattle.grammar.specs.declared.line.Line.{Line}
-use Rattle.grammar.specs.Text.{Record, place, question, numbers}
+use Rattle.grammar.specs.Text.{place, question}
 use Rattle.grammar.specs.Lines.{Held, Shows}
 use Rattle.netfile.specs.Reading.{values_of, counts_of, held_in}
 

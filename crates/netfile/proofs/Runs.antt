@@ -7,14 +7,13 @@ use Rattle.cycle_theory.specs.Method.{tss}
 use Rattle.cycle_theory.specs.Walk.{outcome}
 use Rattle.sheet.specs.declared.sheets.ClosedSheet.{ClosedSheet}
 use Rattle.sheet.specs.Sheets.{closed_list, places_in}
-use Rattle.grammar.specs.Text.{Record}
 use Rattle.netfile.specs.declared.fault.FileFault.{FileFault}
 use Rattle.netfile.specs.declared.fault.FileFault.TheVariants.{BufferTooShort, Grammar, Order, TooLong, TooManyQuestions, Sheet}
 use Rattle.netfile.specs.declared.fault.RunFault.{RunFault}
 use Rattle.netfile.specs.declared.questions.Judged.{Judged}
 use Rattle.netfile.specs.Files.{steps_of, places_of, asked_of, Why, FirstFault}
 use Rattle.netfile.specs.Printouts.{line, row_line, outcome_line, Wrote}
-use Rattle.netfile.specs.Reading.{judged_line, sheet_text, FileRead}
+use Rattle.netfile.specs.Reading.{sheet_text, FileRead}
 use Rattle.netfile.specs.Runs.{ran_text, WhyUnread, Unread, SheetRead, WhyNot, Faulty, RanWell, Ran}
 use Rattle.netfile.proofs.Listing.{listed_rows}
 

@@ -1,5 +1,5 @@
 -- What the sheet says to a place is said of its first 25 effects, since no sheet has so many steps; and which step a refusal names.
-use Rattle.std.proofs.Common.{◌≡◌, ℕ, ◌<◌, ◌≤◌, not, ◌⊎◌, List, length, take, ℤ, pos, Ok, Err, sym, ap, ◌∙◌, subst, inl, inr, arith}
+use Rattle.std.proofs.Common.{◌≡◌, ℕ, ◌≤◌, not, ◌⊎◌, List, length, take, ℤ, pos, Ok, Err, sym, ap, ◌∙◌, subst, inl, inr, arith}
 use Rattle.std.proofs.lemmas.Bool.{cond-true, ne_eqb, cases_lt, cases_eq}
 use Rattle.std.proofs.lemmas.List.{take_all, length-take-le, length-map}
 use Rattle.ledger.specs.declared.Ledger.{Ghosts as Kind}

@@ -3,7 +3,6 @@
 --   number fault   11 buffer too short · 12 grammar · 13 order · 14 file too long, or a 17th question · else the sheet's number
 --   layer fault    1 the file · 2 the sheet · 3 the ledger
 use Rattle.std.specs.Prelude.{ℕ}
-use Rattle.ledger.specs.declared.fault.LedgerFault.{LedgerFault}
 use Rattle.sheet.specs.declared.fault.SheetFault.{SheetFault}
 use Rattle.sheet.specs.declared.fault.SheetFault.TheVariants.{StepCount, Length, Effect, PlacesFull, RowTooLarge, Count, ListTooShort, Ledger}
 use Rattle.sheet.specs.Faults as sheet

@@ -16,7 +16,7 @@
 --   Why k rs rest c f       why the line at the front of `rest`, after the records rs, is refused with f at column c
 --   FirstFault k s f        the first fault of the file s: every line before it is accepted
 --   RightFile k s rs        the file s is the text of the accepted records rs
-use Rattle.std.specs.Prelude.{◌≡◌, ℕ, suc, ◌+◌, ◌-◌, ◌<◌, ◌≤◌, Bool, true, false, cond, not, ◌&&◌, ◌⊎◌, List, [], ◌∷◌, ◌++◌, length, ℤ, None, Ok, Err, Option, ◌==◌, nat_le, nat_lt}
+use Rattle.std.specs.Prelude.{◌≡◌, ℕ, ◌+◌, ◌-◌, ◌<◌, ◌≤◌, true, false, cond, not, ◌&&◌, ◌⊎◌, List, [], ◌∷◌, ◌++◌, length, ℤ, None, Ok, Err, Option, ◌==◌, nat_le, nat_lt}
 use Rattle.ledger.specs.declared.Ledger.{Ghosts as Kind}
 use Rattle.method.specs.Effects.{some}
 use Rattle.sheet.specs.declared.fault.SheetFault.{SheetFault}
@@ -31,7 +31,7 @@ use Rattle.grammar.specs.Lines.{Begins, Broken, Opens, field_in}
 use Rattle.netfile.specs.declared.fault.FileFault.{FileFault}
 use Rattle.netfile.specs.declared.fault.FileFault.TheVariants.{BufferTooShort, Grammar, Order, TooLong, TooManyQuestions, Sheet}
 use Rattle.netfile.specs.declared.fault.RunFault.{RunFault}
-use Rattle.netfile.specs.Order.{asks, follows, May, nearest, questions}
+use Rattle.netfile.specs.Order.{follows, May, nearest, questions}
 use Rattle.netfile.specs.Standing.{standing_places}
 
 abbrev pub written : List Record → List ℕ

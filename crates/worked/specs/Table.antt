@@ -6,7 +6,7 @@
 -- RightNet net       the rows are the minimal cycles of the places, strictly ascending, and nothing else; each question has the outcome
 --                    that is told, and each place too large would leave a row with a count above 1,048,575
 -- AllRight table     every net of the table is right
-use Rattle.std.specs.Prelude.{◌≡◌, ℕ, ◌<◌, List, [], ◌∷◌, ◌++◌, map, get_or, Some, None, Option}
+use Rattle.std.specs.Prelude.{◌≡◌, ℕ, ◌<◌, List, [], ◌∷◌, ◌++◌, map, Some, None, Option}
 use Rattle.cycle_theory.specs.Nets.{Counts, at, Mem, Place}
 use Rattle.cycle_theory.specs.Method.{tss}
 use Rattle.cycle_theory.specs.Theorems.{AllMinimal}

@@ -1,4 +1,4 @@
-use Rattle.std.proofs.Common.{◌≡◌, [], ◌∷◌, ◌++◌, length, get_or, take, ℤ, pos, nat_abs, sym, refl, ap, ◌∙◌, arith, w32, SFits, rules}
+use Rattle.std.proofs.Common.{[], ◌∷◌, ◌++◌, get_or, take, ℤ, pos, nat_abs, sym, refl, ap, ◌∙◌, arith, w32, SFits, rules}
 use Rattle.std.proofs.lemmas.List.{take_more_set, take_all, length-set}
 use Rattle.std.proofs.lemmas.Int.{to_z-of_z}
 use Rattle.grammar.specs.declared.line.Field.{Field}

@@ -1,7 +1,5 @@
-use Rattle.std.proofs.Common.{◌≡◌, ◌-◌, List, take, ℤ, sym, ap, ◌∙◌, arith}
+use Rattle.std.proofs.Common.{◌≡◌, ◌-◌, take, sym, ap, ◌∙◌, arith}
 use Rattle.std.proofs.lemmas.Result.{err_from_is_err_and}
-use Rattle.grammar.specs.Text.{place}
-use Rattle.grammar.specs.Lines.{Shows}
 use Rattle.netfile.proofs.Numbers.{effects_held}
 use Rattle.netfile.proofs.Offers.{as_refused, offer_answer, offer_accepted}
 use Rattle.netfile.proofs.net.offer_line.Goals as goal

@@ -1,8 +1,6 @@
-use Rattle.std.proofs.Common.{◌++◌}
-use Rattle.std.proofs.lemmas.Result.{err_from_is_err_and}
 use Rattle.sheet.specs.Sheets.{closed_list}
 use Rattle.netfile.specs.Reading.{sheet_text}
-use Rattle.netfile.proofs.Buffers.{wrote_none, wrote_all}
+use Rattle.netfile.proofs.Buffers.{wrote_all}
 use Rattle.netfile.proofs.printout.print.Goals as goal
 
 pub returns : goal.returns

@@ -1,8 +1,8 @@
-use Rattle.std.proofs.Common.{◌≡◌, ℕ, ◌+◌, ◌-◌, ◌<◌, List, [], length, get_or, take, replicate, Ok, Err, codes, sym, ap, ◌∙◌, subst, arith}
+use Rattle.std.proofs.Common.{◌≡◌, ℕ, ◌-◌, ◌<◌, List, [], length, get_or, take, Ok, Err, ap, ◌∙◌, subst, arith}
 use Rattle.std.proofs.lemmas.Result.{err_from_is_err_and}
 use Rattle.sheet.specs.Sheets.{closed_list}
 use Rattle.netfile.specs.Buffers.{Puts}
-use Rattle.netfile.specs.Printouts.{line, row_line}
+use Rattle.netfile.specs.Printouts.{row_line}
 use Rattle.netfile.proofs.Buffers.{puts_nothing, each_more, each_none, each_all}
 use Rattle.netfile.proofs.Listing.{row_read}
 use Rattle.netfile.proofs.printout.put_rows.Goals as goal

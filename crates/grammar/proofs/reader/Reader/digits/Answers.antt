@@ -1,4 +1,4 @@
-use Rattle.std.proofs.Common.{◌≡◌, arith}
+use Rattle.std.proofs.Common.{arith}
 use Rattle.grammar.proofs.Numbers.{first_digit, next_digit}
 use Rattle.grammar.proofs.reader.Reader.digits.Goals as goal
 

@@ -1,4 +1,4 @@
-use Rattle.std.proofs.Common.{◌≡◌, ◌+◌, ◌-◌, ◌<◌, true, get_or, pos, negsuc, ◌-ℤ◌, Some, Ok, sym, refl, subst, inl, inr, arith, w32, to_z, of_z}
+use Rattle.std.proofs.Common.{◌≡◌, ◌+◌, ◌-◌, ◌<◌, get_or, pos, negsuc, ◌-ℤ◌, Some, Ok, sym, refl, subst, inl, inr, arith, w32, to_z, of_z}
 use Rattle.std.proofs.lemmas.Int.{ints}
 use Rattle.grammar.specs.Reading.{Digits, Number}
 use Rattle.grammar.proofs.Numbers.{minus_number, zero_read}

@@ -1,4 +1,4 @@
-use Rattle.std.proofs.Common.{◌≡◌, ◌+◌, List, [], ◌∷◌, ◌++◌, length, get_or, take, ℤ, pos, sym, ap, ◌∙◌, arith, length-set, take_all, w32, to_z, of_z, rules}
+use Rattle.std.proofs.Common.{◌≡◌, List, [], ◌∷◌, ◌++◌, length, get_or, take, ℤ, pos, sym, ap, ◌∙◌, arith, length-set, take_all, w32, to_z, of_z, rules}
 use Rattle.std.proofs.lemmas.List.{take_more, take_more_set}
 use Rattle.method.proofs.place.effects.lined.Goals as goal
 
