@@ -1,7 +1,7 @@
 -- From the machine to what is written: where a line can go on, and where none can.
 use Rattle.std.proofs.Common.{◌≡◌, ℕ, ◌+◌, ◌<◌, ◌≤◌, true, List, [], ◌∷◌, ◌++◌, map, reverse, length, get_or, take, drop, ℤ, pos, negsuc, nat_abs, Some, None, Ok, Err, decimal, Option, Result, sym, refl, ap, ◌∙◌, subst, inl, inr, append_assoc, arith}
 use mathlib.Core.List.{reverse_aux}
-use Rattle.std.specs.List.{flat_map, AllByRecursion as All}
+use Rattle.std.specs.List.{flat_map, AllByRecursion}
 use Rattle.std.proofs.lemmas.Bool.{false≢true, cases_order, cases_lt}
 use Rattle.std.proofs.lemmas.Fmt.{decimal_digit}
 use Rattle.std.proofs.lemmas.List.{take_more, append-nil, reverse-reverse, take-append-drop, take-take, length-append, length-take-le}
@@ -47,11 +47,11 @@ signed_place : (z : ℤ) → Signed Place z
 signed_place (pos n) = tt
 signed_place (negsuc n) = refl
 
-fit_place : (es xs : List ℤ) → All Short es → Fit Place xs → Fit Place (reverse_aux es xs)
+fit_place : (es xs : List ℤ) → AllByRecursion Short es → Fit Place xs → Fit Place (reverse_aux es xs)
 fit_place [] xs a f = f
 fit_place (e ∷ es) xs a f = fit_place es (e ∷ xs) a.1 (f, refl, a.0, signed_place e)
 
-fit_question : (cs : List ℕ) (xs : List ℤ) → All Short (map pos cs) → Fit Question xs → Fit Question (reverse_aux (map pos cs) xs)
+fit_question : (cs : List ℕ) (xs : List ℤ) → AllByRecursion Short (map pos cs) → Fit Question xs → Fit Question (reverse_aux (map pos cs) xs)
 fit_question [] xs a f = f
 fit_question (c ∷ cs) xs a f = fit_question cs (pos c ∷ xs) a.1 (f, refl, a.0, tt)
 
@@ -134,7 +134,7 @@ pub record Ended (m : Mark) (xs : List ℤ) : Type 0 where
   pub marked : mark of ≡ m
   pub numbered : numbers of ≡ reverse xs
 
-shorts : (m : Mark) (xs ys : List ℤ) → Fit m xs → All Short ys → All Short (reverse_aux xs ys)
+shorts : (m : Mark) (xs ys : List ℤ) → Fit m xs → AllByRecursion Short ys → AllByRecursion Short (reverse_aux xs ys)
 shorts m [] ys f a = a
 shorts m (x ∷ xs) ys f a = shorts m xs (x ∷ ys) f.0 (f.2, a)
 
@@ -153,7 +153,7 @@ whole Standing (x ∷ xs) f e = absurd (false≢true f.1)
 whole Place xs f e = record { of = place (reverse xs); right = shorts Place xs [] f tt; marked = refl; numbered = refl }
 whole Question xs f e =
     let c = counts xs [] f in
-    record { of = question c.0; right = subst (All Short) (sym c.1) (shorts Question xs [] f tt); marked = refl; numbered = c.1 }
+    record { of = question c.0; right = subst (AllByRecursion Short) (sym c.1) (shorts Question xs [] f tt); marked = refl; numbered = c.1 }
 
 pub ended_text : (m : Mark) (xs : List ℤ) (w : Ended m xs) → text w.of ≡ front m xs ++ (10 ∷ [])
 ended_text m xs w =

@@ -10,7 +10,7 @@
 --   Right r     a record that can be written: its numbers are short
 use Rattle.std.specs.Prelude.{ℕ, ◌≤◌, List, [], ◌∷◌, ◌++◌, map, ℤ, pos, unsigned_abs}
 use Rattle.std.specs.Fmt.{signed_decimal}
-use Rattle.std.specs.List.{flat_map, AllByRecursion as All}
+use Rattle.std.specs.List.{flat_map, AllByRecursion}
 use Rattle.grammar.specs.declared.mark.Mark.{Mark}
 use Rattle.grammar.specs.declared.mark.Mark.TheVariants.{Steps, Standing, Place, Question}
 
@@ -49,4 +49,4 @@ abbrev pub Short : ℤ → Type 0
 Short z = unsigned_abs z ≤ 9999999
 
 abbrev pub Right : Record → Type 0
-Right r = All Short (numbers r)
+Right r = AllByRecursion Short (numbers r)

@@ -1,7 +1,7 @@
 -- What an insertion makes of a list that is in order.
 use Rattle.std.proofs.Common.{◌≡◌, ℕ, ◌+◌, ◌<◌, ◌≤◌, Bool, true, cond, List, [], ◌∷◌, ◌++◌, length, get_or, take, drop, sum_by, sym, refl, ap, ◌∙◌, subst, arith, length-take}
 use Rattle.std.proofs.lemmas.List.{take_all, drop_all, take_more}
-use Rattle.std.specs.List.{insert, AllByRecursion as All}
+use Rattle.std.specs.List.{insert, AllByRecursion}
 use Rattle.std.proofs.lemmas.List.Sums.{sum_by-append, sum_by-cons, sum_by-take-drop}
 use Rattle.std.proofs.ByRecursion.{All-append, All-take, All-drop}
 use Rattle.ledger.specs.Rows.{WellKept, Small}
@@ -13,7 +13,7 @@ sum_by_inserted f xs i y =
     let d = sum_by-take-drop f xs i in
     omega (arith, a, b, d)
 
-pub all_inserted : {X : Type 0} (P : X → Type 0) (xs : List X) (i : ℕ) (y : X) → All P xs → P y → All P (insert xs i y)
+pub all_inserted : {X : Type 0} (P : X → Type 0) (xs : List X) (i : ℕ) (y : X) → AllByRecursion P xs → P y → AllByRecursion P (insert xs i y)
 all_inserted P xs i y all here = All-append P (take i xs) (y ∷ drop i xs) (All-take P i xs all) (here, All-drop P i xs all)
 
 -- one row more may be held, where its charge fits

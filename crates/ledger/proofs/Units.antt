@@ -1,6 +1,6 @@
 -- The unit rows, one after another: each may be held, and all fit. Calls on a ledger that are not refused.
 use Rattle.std.proofs.Common.{◌≡◌, ℕ, zero, suc, ◌+◌, ◌-◌, ◌<◌, ◌≤◌, List, [], ◌∷◌, ◌++◌, length, take, drop, replicate, Err, sum_by, sym, ap, ◌∙◌, arith, length-set, take_all}
-use Rattle.std.specs.List.{insert, AllByRecursion as All}
+use Rattle.std.specs.List.{insert, AllByRecursion}
 use Rattle.std.proofs.ByRecursion.{All-get_or, All-set}
 use Rattle.std.proofs.lemmas.List.Sums.{sum_by-take-le}
 use Rattle.std.proofs.lemmas.List.FromFn.{length-map-range_with_len, take-map-range_with_len, map-range_with_len_more, sum_by-map-range_with_len_more}
@@ -10,7 +10,7 @@ use Rattle.ledger.specs.declared.fault.LedgerFault.TheVariants.{NoRow, NoPositio
 use Rattle.ledger.specs.Rows.{unit, units, Small}
 use Rattle.ledger.specs.Calls.{Position, Held, Inserts, Reads}
 
-all_zero : (n : ℕ) → All (λ x. x ≤ 1048575) (replicate n 0)
+all_zero : (n : ℕ) → AllByRecursion (λ x. x ≤ 1048575) (replicate n 0)
 all_zero zero = tt
 all_zero (suc n) = (omega arith, all_zero n)
 

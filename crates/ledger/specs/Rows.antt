@@ -9,7 +9,7 @@
 --   nonzeros row      how many steps are in use
 --   entry_charge row  what the entry ledger charges a row: 1, and 1 for each step in use
 use Rattle.std.specs.Prelude.{◌≡◌, ℕ, ◌+◌, ◌-◌, ◌/◌, ◌%◌, ◌^◌, ◌<◌, ◌≤◌, cond, not, List, map, length, replicate, sum_by, count_by, ◌==◌, slice_index, slice_set}
-use Rattle.std.specs.List.{range_with_len, AllByRecursion as All}
+use Rattle.std.specs.List.{range_with_len, AllByRecursion}
 
 abbrev pub unit : ℕ → List ℕ
 unit j = slice_set (replicate 24 0) j 1
@@ -24,8 +24,8 @@ abbrev pub FirstLarge : List ℕ → ℕ → Type 0
 FirstLarge row j = (1 ≤ j) × (j ≤ 24) × (1048575 < slice_index row (j - 1)) × ((i : ℕ) → i < j - 1 → slice_index row i ≤ 1048575)
 
 pub record WellKept (charge : List ℕ → ℕ) (total : ℕ) (rows : List (List ℕ)) : Type 0 where
-  pub wide : All (λ row. length row ≡ 24) rows
-  pub small : All Small rows
+  pub wide : AllByRecursion (λ row. length row ≡ 24) rows
+  pub small : AllByRecursion Small rows
   pub fits : sum_by charge rows ≤ total
 
 -- bit j - 1 is 1 exactly when step j has a count other than 0

@@ -1,6 +1,6 @@
 -- A row of a ledger in order, read.
 use Rattle.std.proofs.Common.{◌≡◌, ℕ, zero, suc, ◌+◌, ◌-◌, ◌<◌, ◌≤◌, List, [], length, get_or, replicate, sym, ap, ◌∙◌, subst, arith}
-use Rattle.std.specs.List.{AllByRecursion as All}
+use Rattle.std.specs.List.{AllByRecursion}
 use Rattle.std.proofs.ByRecursion.{All-get_or}
 use Rattle.cycle_theory.specs.Nets.{Counts}
 use Rattle.ledger.specs.Rows.{Small, FirstLarge}
@@ -15,7 +15,7 @@ pub read_is : (rows : List Counts) (k : ℕ) (row : Counts) → row ≡ get_or r
 read_is rows k row is = let e : (k + 1) - 1 ≡ k = omega arith in is ∙ ap (λ (n : ℕ). get_or rows n []) e
 
 -- no count of it is large
-pub not_large : (rows : List Counts) (k : ℕ) (row : Counts) (j : ℕ) → All Small rows → k < length rows → row ≡ row_at rows k → FirstLarge row j → ⊥
+pub not_large : (rows : List Counts) (k : ℕ) (row : Counts) (j : ℕ) → AllByRecursion Small rows → k < length rows → row ≡ row_at rows k → FirstLarge row j → ⊥
 not_large rows k row j all h is large =
     let s : Small (row_at rows k) = All-get_or Small rows k [] h all in
     let low = large.0 in
