@@ -1,8 +1,8 @@
 -- What a certificate tells of each row.
 --
 --   share rows cs k        the coefficient beside the first k among the rows, 0 where it is not among them
---   rows_of c               the rows of a certificate, from 0
---   shares_of c             their coefficients
+--   rows_of c              the rows of a certificate, from 0
+--   shares_of c            their coefficients
 --   coefficient c k        the coefficient of the row k, from 0
 --   coefficients_of m c    the coefficients of the first m rows
 use Rattle.std.specs.Prelude.{ℕ, cond, List, [], ◌∷◌, take, ◌==◌}

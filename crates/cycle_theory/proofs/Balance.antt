@@ -1,4 +1,4 @@
--- Balance is linear: where a × y = b × x + c × w, and two of the rows are cycles, so is the third (cycle-part, cycle-whole).
+-- Balance is linear: where a × y = b × x + c × w, and two of the rows are cycles, so is the third (cycle_part, cycle_whole).
 use Rattle.std.proofs.Common.{◌≡◌, ℕ, suc, ◌+◌, ◌*◌, ◌<◌, ◌↔◌, List, [], ◌∷◌, ◌++◌, sym, refl, ap, ◌∙◌, arith}
 use native.Mathlib.Nat.{eq_of_mul-eq-mul_left}
 use Rattle.cycle_theory.specs.Nets.{Counts, at}

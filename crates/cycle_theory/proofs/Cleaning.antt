@@ -1,4 +1,4 @@
--- Cleaning rows that reach the cycles leaves rows that cover them (cleaned-cover).
+-- Cleaning rows that reach the cycles leaves rows that cover them (cleaned_cover).
 use Rattle.std.proofs.Common.{◌≡◌, ℕ, zero, suc, ◌<◌, true, false, not, ◌||◌, eqb, ◌⊎◌, List, [], ◌∷◌, sym, refl, ◌∙◌, subst, inl, inr, not-suc-le-zero, arith}
 use Rattle.std.proofs.lemmas.Bool.{false≢true, eqb-true, eq-eqb, and_parts, and_from, or_cases, or_left, or_right, and_cases, not-true, not-false, not_from_false, cases_Bool, both_ways}
 use Rattle.cycle_theory.specs.Nets.{Counts, at, Mem, Within}

@@ -1,4 +1,4 @@
--- The row of a pair: it uses the steps of both, the place is balanced on it, and nothing but 1 divides it (pair-candidate).
+-- The row of a pair: it uses the steps of both, the place is balanced on it, and nothing but 1 divides it (pair_candidate).
 use Rattle.std.proofs.Common.{◌≡◌, ℕ, zero, suc, ◌+◌, ◌-◌, ◌*◌, ◌<◌, List, ◌∷◌, length, sym, ap, ◌∙◌, inl, inr, eq-zero-or-pos, mul-pos, arith}
 use native.Mathlib.Nat.{eq_of_mul-eq-mul_left}
 use Rattle.cycle_theory.specs.Nets.{Counts, at, Nonzero, Within}

@@ -1,4 +1,4 @@
--- The walk: every cycle is taken apart, row by row (walk-induction), so that a multiple of it is a sum of rows (decompose).
+-- The walk: every cycle is taken apart, row by row (walk_induction), so that a multiple of it is a sum of rows (decompose).
 use Rattle.std.proofs.Common.{◌≡◌, ℕ, zero, suc, ◌+◌, ◌*◌, ◌<◌, List, [], ◌∷◌, length, refl, ap, subst, inl, inr, not-suc-le-zero, mul-pos, arith}
 use Rattle.cycle_theory.specs.Nets.{Counts, at, Mem, Within}
 use Rattle.cycle_theory.specs.Theorems.{mixed}

@@ -1,4 +1,4 @@
--- Euclid's algorithm: a row divided by the common divisor of its counts has none but 1 (divided-primitive).
+-- Euclid's algorithm: a row divided by the common divisor of its counts has none but 1 (divided_primitive).
 use Rattle.std.proofs.Common.{◌≡◌, ℕ, zero, suc, ◌+◌, ◌-◌, ◌*◌, ◌/◌, ◌%◌, ◌<◌, ◌≤◌, [], ◌∷◌, length, sym, ap, ◌∙◌, inl, inr, not-suc-le-zero, mod-lt, eq-zero-or-pos, arith}
 use native.Mathlib.Nat.{eq_of_mul-eq-mul_left, mul-sub, div-add-mod, mul-div_cancel_left, zero-div}
 use Rattle.cycle_theory.specs.Nets.{Counts, at, Nonzero}

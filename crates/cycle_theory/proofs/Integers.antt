@@ -1,4 +1,4 @@
--- The sum in integers is what the place gains less what it loses (sum_said), so the method's step is that of the flows (step-flow).
+-- The sum in integers is what the place gains less what it loses (sum_said), so the method's step is that of the flows (step_flow).
 use Rattle.std.proofs.Common.{◌≡◌, ℕ, suc, ◌+◌, ◌-◌, ◌<◌, Bool, eqb, ltb, ◌↔◌, List, [], ◌∷◌, ◌++◌, map, ℤ, pos, negsuc, ◌+ℤ◌, ◌*ℤ◌, ◌<ℤ◌, sym, refl, ap, ◌∙◌, subst, inl, inr, arith}
 use lib.IntN.{sub_ℕ}
 use borrow.Author.Differences.{ints, up, down, same_in, same_out}

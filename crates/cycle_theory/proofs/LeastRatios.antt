@@ -1,4 +1,4 @@
--- The least ratio of a rest and a row: `least-ratio` says that it is least, is reached, and is in lowest terms.
+-- The least ratio of a rest and a row: `least_ratio_is_least` says that it is least, is reached, and is in lowest terms.
 use Rattle.std.proofs.Common.{◌≡◌, ℕ, zero, suc, ◌*◌, ◌/◌, ◌<◌, ◌≤◌, true, false, ltb, ◌⊎◌, [], ◌∷◌, length, sym, refl, ap, ◌∙◌, subst, inl, inr, le_of_suc-le-suc, not-suc-le-zero, mul-le-mul_right, eq-zero-or-pos, eq-or-lt_of_le, mul-le-mul_left, arith}
 use native.Mathlib.Nat.{le_of_mul-le-mul_left, eq_of_mul-eq-mul_left, mul-div_cancel_left}
 use Rattle.std.proofs.lemmas.Bool.{ltb-true, ltb-false, lt-ltb, le-ltb, cases_Bool, cond-true, cond-false}

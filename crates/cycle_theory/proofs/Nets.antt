@@ -1,4 +1,4 @@
--- From nets to flows and back: the method's rows cover the cycles of the flows, and are ascending (tss-cover).
+-- From nets to flows and back: the method's rows cover the cycles of the flows, and are ascending (tss_cover).
 use Rattle.std.proofs.Common.{◌≡◌, ℕ, zero, suc, ◌≤◌, List, [], ◌∷◌, ◌++◌, map, length, sym, refl, ap, ◌∙◌, subst, inl, inr, arith}
 use Rattle.cycle_theory.specs.Nets.{Counts, Place, Cycle, Nonzero, Divides, Minimal, Ascending}
 use Rattle.cycle_theory.specs.Method.{units, step, after, tss}

@@ -1,4 +1,4 @@
--- The balanced rows and the rows of all pairs reach every cycle of one place more (born-covers).
+-- The balanced rows and the rows of all pairs reach every cycle of one place more (born_covers).
 use Rattle.std.proofs.Common.{◌≡◌, ℕ, suc, ◌+◌, ◌*◌, ◌<◌, ◌≤◌, List, ◌∷◌, length, sym, refl, ap, subst, inl, inr, mul-le-mul_left, arith}
 use native.Mathlib.Nat.{mul-lt-mul_of_pos_left}
 use Rattle.std.proofs.lemmas.Bool.{cases_order}

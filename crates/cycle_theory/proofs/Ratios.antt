@@ -1,4 +1,4 @@
--- Two rows with no common divisor that are proportional are equal (proportional-equal). Of a row that uses all steps of another
+-- Two rows with no common divisor that are proportional are equal (proportional_equal). Of a row that uses all steps of another
 -- as much as possible of the other is taken away, and fewer steps are left in use (lower).
 use Rattle.std.proofs.Common.{◌≡◌, ℕ, zero, suc, ◌+◌, ◌-◌, ◌*◌, ◌<◌, ◌≤◌, ◌⊎◌, length, sym, ap, ◌∙◌, subst, inl, inr, le_of_suc-le-suc, not-suc-le-zero, mul-le-mul_right, eq-zero-or-pos, eq-or-lt_of_le, mul-le-mul_left, arith}
 use native.Mathlib.Nat.{le_of_mul-le-mul_left, mul-sub, eq_of_mul-eq-mul_left}

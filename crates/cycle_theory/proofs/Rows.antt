@@ -1,4 +1,4 @@
--- Rows of counts: two rows are equal where they are equally long and equal at each step (equal-rows).
+-- Rows of counts: two rows are equal where they are equally long and equal at each step (equal_rows).
 use Rattle.std.proofs.Common.{◌≡◌, ℕ, zero, suc, ◌<◌, ◌≤◌, ◌⊎◌, [], ◌∷◌, length, sym, refl, ap, ◌∙◌, subst, inl, inr, le_of_suc-le-suc, not-suc-le-zero, arith}
 use mathlib.Core.List.{List-discrete}
 use native.Mathlib.Decide.{dec_le, ℕ_discrete}

@@ -1,4 +1,4 @@
--- The places one after the other: from the last on (run-cover), and from the first on, with the same rows (after_run).
+-- The places one after the other: from the last on (run_cover), and from the first on, with the same rows (after_run).
 use Rattle.std.proofs.Common.{◌≡◌, ℕ, ◌↔◌, List, [], ◌∷◌, ◌++◌, length, refl, ap, subst}
 use Rattle.cycle_theory.proofs.Balance.{cycle_last}
 use Rattle.cycle_theory.specs.Nets.{Counts, Ascending}

@@ -1,4 +1,4 @@
--- A step keeps the cover (stepped), and its rows can be had without cleaning (step-members).
+-- A step keeps the cover (stepped), and its rows can be had without cleaning (step_members).
 use Rattle.std.proofs.Common.{◌≡◌, ℕ, ◌<◌, true, eqb, ltb, ◌↔◌, List, [], ◌∷◌, map, sym, refl, ap, ◌∙◌, subst, inl, inr, arith}
 use Rattle.std.proofs.lemmas.Bool.{ltb-true, lt-ltb, eqb-true, eq-eqb}
 use Rattle.cycle_theory.specs.Nets.{Counts, Mem, Within, Ascending}

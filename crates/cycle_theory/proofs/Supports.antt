@@ -1,4 +1,4 @@
--- The steps in use: the test `within` decides Within (within?), and a row that leaves a step out uses fewer (fewer-steps).
+-- The steps in use: the test `within` decides Within (within?), and a row that leaves a step out uses fewer (fewer_steps).
 use Rattle.std.proofs.Common.{◌≡◌, ℕ, zero, suc, ◌+◌, ◌<◌, ◌≤◌, true, ◌⊎◌, [], ◌∷◌, refl, subst, inl, inr, le_of_suc-le-suc, not-suc-le-zero, eq-or-lt_of_le, arith}
 use Rattle.std.proofs.lemmas.Bool.{false≢true, cases_Bool, and_parts, and_from, both_ways}
 use Rattle.cycle_theory.specs.Nets.{Counts, Within}

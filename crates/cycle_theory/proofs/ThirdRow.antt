@@ -1,4 +1,4 @@
--- The row of a pair is kept just when no third row uses only steps which the pair uses (kept-of-no-third, no-third-of-kept).
+-- The row of a pair is kept just when no third row uses only steps which the pair uses (kept_of_no_third, no_third_of_kept).
 use Rattle.std.proofs.Common.{◌≡◌, ℕ, ◌+◌, ◌*◌, ◌<◌, ◌≤◌, ◌⊎◌, List, sym, refl, ap, ◌∙◌, subst, inl, inr, mul-le-mul_right, eq-zero-or-pos, mul-pos, arith}
 use Rattle.std.proofs.lemmas.Bool.{cases_order}
 use Rattle.cycle_theory.specs.Nets.{Counts, at, Mem, Within}

@@ -1,4 +1,4 @@
--- The single steps cover the cycles of no place, and are ascending (units-cover).
+-- The single steps cover the cycles of no place, and are ascending (units_cover).
 use Rattle.std.proofs.Common.{◌≡◌, ℕ, zero, suc, ◌<◌, ◌≤◌, [], sym, refl, ap, ◌∙◌, subst, inl, inr, le_of_suc-le-suc, not-suc-le-zero, eq-zero-or-pos, eq-or-lt_of_le, arith}
 use Rattle.cycle_theory.proofs.Divisors.{one_of_product}
 use Rattle.cycle_theory.specs.Nets.{Counts, at, Mem, Within, Before, Ascending}

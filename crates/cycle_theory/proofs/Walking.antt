@@ -1,4 +1,4 @@
--- The walk as a whole: what is certified is a certificate (walk-certifies), more rounds change nothing (walk_ends), and a round leads on (walk-round).
+-- The walk as a whole: what is certified is a certificate (walk_certifies), more rounds change nothing (walk_ends), and a round leads on (round_leads_on).
 use Rattle.std.proofs.Common.{◌≡◌, ℕ, zero, suc, ◌+◌, ◌-◌, ◌*◌, ◌<◌, ◌≤◌, Bool, true, false, cond, not, eqb, ◌⊎◌, List, [], map, length, get_or, sym, ap, ◌∙◌, subst, inl, inr, not-suc-le-zero, eq-zero-or-pos, mul-pos, arith}
 use lib.ListN.{length-replicate}
 use Rattle.std.proofs.lemmas.List.{get_or_past, length-map}

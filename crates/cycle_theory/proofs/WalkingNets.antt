@@ -1,4 +1,4 @@
--- Questions on the listed rows of a net: a cycle is never stuck (walk-goes-on), and every outcome says what it should (outcome-right).
+-- Questions on the listed rows of a net: a cycle is never stuck (walk_goes_on), and every outcome says what it should (outcome_right).
 use Rattle.std.proofs.Common.{◌≡◌, ℕ, zero, suc, ◌+◌, ◌-◌, ◌<◌, ◌≤◌, Bool, true, false, not, ltb, ◌⊎◌, List, [], map, length, get_or, ℤ, pos, negsuc, sym, refl, ap, ◌∙◌, subst, inl, inr, arith}
 use Rattle.std.proofs.lemmas.Bool.{cases_Bool, cond-true, cond-false, both_ways, eqb-true, ltb-true, ltb-false, not_from_true}
 use Rattle.cycle_theory.specs.Nets.{Counts, Mem, Place, sum, Cycle, Nonzero, Within}

@@ -1,4 +1,4 @@
--- A question's outcome depends on the counts alone, not on zeros behind them: `same-walk` and `same-unbroken`.
+-- A question's outcome depends on the counts alone, not on zeros behind them: `same_walk` and `same_unbroken`.
 use Rattle.std.proofs.Common.{◌≡◌, ℕ, zero, suc, ◌+◌, ◌-◌, ◌*◌, Bool, true, false, cond, not, ◌&&◌, eqb, ltb, leb, List, [], ◌∷◌, map, length, get_or, replicate, ℤ, pos, ◌+ℤ◌, ◌*ℤ◌, sym, refl, ap, ◌∙◌, arith}
 use Rattle.std.proofs.lemmas.Bool.{cond-false, le-ltb}
 use Rattle.cycle_theory.specs.Nets.{Counts, at, Place, sum}

@@ -26,9 +26,9 @@
 -- flow_step f R          the rows after one place more
 -- flow_after R A         the rows after all places, from the first on
 -- flow_run n A           the rows after all places, from the last on
--- Born f R z            z stands in flow_rows f R, said
+-- Born f R z             z stands in flow_rows f R, said
 -- Kept L z               z stays when L is cleaned, said
--- Chosen f R z          z stands in flow_step f R, said with no cleaning: the pair has no third row
+-- Chosen f R z           z stands in flow_step f R, said with no cleaning: the pair has no third row
 use Rattle.std.specs.Prelude.{◌≡◌, ℕ, suc, ◌+◌, ◌-◌, ◌*◌, ◌<◌, ◌⊎◌, List, [], ◌∷◌, ◌++◌, map, length, ℤ, pos, ◌+ℤ◌, ◌*ℤ◌, nat_eq, nat_lt}
 use Rattle.cycle_theory.specs.Nets.{Counts, at, Mem, Place, Nonzero, Within, Divides}
 use Rattle.cycle_theory.specs.Method.{surplus, deficit, weighted, divided, keep, cleaned, ascending, units}

@@ -16,7 +16,7 @@
 -- keep_if test x list   x and then the list where the test is true, else the list
 -- keep test list        the members that pass the test
 -- every test list       whether all members pass the test
--- is_zero z              whether z is 0
+-- is_zero z             whether z is 0
 -- is_positive z         whether z is above 0
 -- is_negative z         whether z is below 0
 -- pairs p us vs         for each u of us and each v of vs, combined p u v, divided

@@ -23,7 +23,7 @@
 --   walk rows question       the outcome of the walk, which has as many rounds as the question uses steps
 --   unbroken places question how many places come before the first whose sum on the question is not 0
 --   outcome places rows ..   the outcome of a question: its first broken place, from 1, or else that of the walk
-use Rattle.std.specs.Prelude.{ℕ, zero, suc, ◌+◌, ◌-◌, ◌*◌, ◌/◌, Bool, cond, not, ◌&&◌, leb, List, [], ◌∷◌, map, length, replicate, ◌==◌, nat_eq, nat_le, nat_lt, slice_index_or}
+use Rattle.std.specs.Prelude.{ℕ, zero, suc, ◌+◌, ◌-◌, ◌*◌, ◌/◌, Bool, cond, not, ◌&&◌, List, [], ◌∷◌, map, length, replicate, ◌==◌, nat_eq, nat_le, nat_lt, slice_index_or}
 use Rattle.std.specs.List.{prefix_len}
 use Rattle.cycle_theory.specs.Nets.{Counts, at, Place, sum}
 use Rattle.cycle_theory.specs.Method.{tabulate, gcd, every, within, is_zero}
@@ -92,7 +92,7 @@ abbrev pub round : List Counts → Walk → Walk
 round rows w = taken (first_within w.rest rows) (chosen rows w) w
 
 abbrev pub small : Counts → Bool
-small x = every (λ c. leb c most) x
+small x = every (λ c. nat_le c most) x
 
 abbrev pub fits : Walk → Bool
 fits w = nat_le w.multiplier most && (small w.coefficients && small w.rest)

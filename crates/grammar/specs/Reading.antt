@@ -5,7 +5,7 @@
 --   Digits w p q v    the digits from p to q are those of v, and no more can follow; or there is none at p
 --   Number w p q t z  the number from p to q is z, with a minus only where t; or the column at which none can go on
 --   Part, Next        what stands at p, after n numbers: another number, the line's end, or nothing that can go on
---   room_at m n        another number can follow n of them
+--   room_at m n       another number can follow n of them
 --   enough_at m n     the line can end after n of them
 --   signs m           its numbers can have a minus
 use Rattle.std.specs.Prelude.{◌≡◌, ℕ, ◌+◌, ◌<◌, ◌≤◌, Bool, true, false, not, ◌⊎◌, List, ◌++◌, length, take, ℤ, pos, negsuc, Some, None, Ok, Err, decimal, Option, Result, ◌==◌, slice_index}

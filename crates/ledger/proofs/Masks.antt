@@ -1,4 +1,4 @@
--- A mask with the bit of one step more: `mask-used` where the step is in use, `mask-zero` where it is not.
+-- A mask with the bit of one step more: `mask_used` where the step is in use, `mask_zero` where it is not.
 use Rattle.std.proofs.Common.{◌≡◌, ℕ, ◌+◌, ◌-◌, ◌*◌, ◌/◌, ◌%◌, ◌^◌, ◌<◌, cond, eqb, List, get_or, sym, ap, ◌∙◌, arith, below_more, eq-eqb, ne_eqb}
 use native.Mathlib.Nat.{add-mul-div_left, add-mul-mod_self_left, div-eq_of_lt}
 use lib.Bits.{bit_or, or_shifted_r}

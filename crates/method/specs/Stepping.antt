@@ -9,7 +9,7 @@
 --   Made kind new r s    the answer r and the spare ledger s that a place leaves, where `new` are the rows after it
 --   Next kind p c s r s' what offering the place p to the rows of the ledger c answers, and what it makes of the spare ledger s
 --   First kind n l       the ledger l holds the rows of a net of n steps that has no place yet; n above 24 is read as 24
-use Rattle.std.specs.Prelude.{◌≡◌, ℕ, ◌-◌, ◌≤◌, min, Bool, cond, ltb, List, [], ◌∷◌, ◌++◌, map, length, replicate, ℤ, Ok, Err, sum_by, Result, nat_lt}
+use Rattle.std.specs.Prelude.{◌≡◌, ℕ, ◌-◌, ◌≤◌, min, Bool, cond, List, [], ◌∷◌, ◌++◌, map, length, replicate, ℤ, Ok, Err, sum_by, Result, nat_lt}
 use Rattle.cycle_theory.specs.Method.{tss}
 use Rattle.ledger.specs.declared.Ledger.{Ghosts as Kind}
 use Rattle.ledger.specs.declared.fault.LedgerFault.TheVariants.{Full}
@@ -24,7 +24,7 @@ abbrev pub written : List (List ℕ) → List (List ℕ)
 written rows = map wide rows
 
 abbrev pub some_large : List (List ℕ) → Bool
-some_large rows = some (some (ltb 1048575)) rows
+some_large rows = some (some (nat_lt 1048575)) rows
 
 abbrev pub overfull : {L : Type 0} → Kind L → List (List ℕ) → Bool
 overfull kind rows = nat_lt kind.total (sum_by kind.charge (written rows))

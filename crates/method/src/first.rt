@@ -1,6 +1,6 @@
 // The rows of a net that has no place yet: the single steps.
 ghost use Rattle.std.specs.Prelude.{◌≡◌, ◌<◌};
-ghost use Rattle.ledger.specs.Rows.{unit as unitRow};
+ghost use Rattle.ledger.specs.Rows.{unit as unit_row};
 ghost use Rattle.method.specs.Stepping.{First};
 
 use ledger::{Ledger, Row};
@@ -19,7 +19,7 @@ pub fn first_rows<L: Ledger>(rows: &mut L, n: usize)
 // The row that counts one step once.
 fn unit(step: usize) -> Row
     requires { step < 24 }
-    ensures { result.counts ≡ unitRow step }
+    ensures { result.counts ≡ unit_row step }
 {
     let mut row = Row::zeros();
     row.counts[step] = 1;

@@ -2,9 +2,9 @@
 -- Of records in a list the nearest comes first: the last line of the file stands at the front.
 --
 --   written rs              the text of the records, first line first
---   steps_of rs              how many steps the net of the records has
---   places_of rs             its places, in the order of the file; the standing net has its own
---   asked_of rs              its questions, in the order of the file
+--   steps_of rs             how many steps the net of the records has
+--   places_of rs            its places, in the order of the file; the standing net has its own
+--   asked_of rs             its questions, in the order of the file
 --   offered k n A ps        what offering the places ps, one after another, to a sheet of n steps with the places A comes to
 --   asked n x               what putting the question x to a sheet of n steps comes to, before it is judged
 --   answer k rs r           what the sheet of the records rs, on ledgers of kind k, says to one record more: done, or why not

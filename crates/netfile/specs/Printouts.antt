@@ -3,7 +3,7 @@
 --   field n               one space and the number, in as many digits as it needs
 --   fields ns             the fields of these numbers, one after the other
 --   line mark ns          a line: its mark, its numbers, and byte 10
---   row_line row           the line of a row
+--   row_line row          the line of a row
 --   outcome_line o        the line of a question's outcome: a certificate with its multiplier and coefficients, or why there is none
 --   printout rows os      the number of rows, each row, and the outcome of each question
 --   net_printout n A xs   the printout of the net with n steps and the places A, and of the questions xs

@@ -7,7 +7,7 @@
 --   values_of fs, counts_of fs the values of fields, and the same without their signs
 --   held_in l                how many numbers of a line are at hand
 --   step_in f                the step that a fault names, from 1; 0 where it names none
---   place_in l i f            where a fault is told that was found in line i, read as l: at the field of the step that it names, else at column 1
+--   place_in l i f           where a fault is told that was found in line i, read as l: at the field of the step that it names, else at column 1
 --   Located l i f r          the run's fault r is f, told there
 --   AsSheet o P r            r tells what the sheet said: where it is done, P of what was made; else its fault, passed up
 --   SheetOf k s rs           the open sheet s is that of the records rs

@@ -1,4 +1,4 @@
--- Every run keeps the promise. The main statements are `one-run` and `two_runs`. Assumes nothing.
+-- Every run keeps the promise. The main statements are `one_run` and `two_runs`. Assumes nothing.
 use Rattle.std.proofs.Common.{◌≡◌, ℕ, ◌↔◌, List, [], ◌∷◌, ◌++◌, map, length, take, ℤ, sym, ap, ◌∙◌, subst}
 use Rattle.ledger.specs.declared.Ledger.{Ghosts as Kind}
 use Rattle.cycle_theory.specs.Nets.{Cycle}

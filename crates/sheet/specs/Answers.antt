@@ -2,7 +2,7 @@
 --
 --   answer_number answer  9 where a place is broken, 10 where a number is too large, 0 where there is a certificate
 --   answer_place answer   the broken place, from 1; 0 where none is broken
---   answer_of outcome      the answer that tells an outcome; no question on a sheet is stuck
+--   answer_of outcome     the answer that tells an outcome; no question on a sheet is stuck
 --   coefficients_in o     the coefficients of an outcome, none where it is not certified
 use Rattle.std.specs.Prelude.{ℕ, List, []}
 use Rattle.cycle_theory.specs.Walk.{Outcome, certified, broken, too_large, stuck}

@@ -2,7 +2,7 @@
 -- Throughout, k is what the sheet's kind of ledger states of itself: its rows, whether it is in order, the charge of a row and the total.
 --
 --   Holds k n A rows           the ledger is in order and holds the method's rows of the places A, each with n effects, 24 counts wide
---   steps_of s, places_of s      how many steps an open sheet has, and its accepted places, in the order in which they came
+--   steps_of s, places_of s    how many steps an open sheet has, and its accepted places, in the order in which they came
 --   Sound k s                  the current ledger holds the rows of the places, and the spare is empty
 --   Opened k n s               opening a sheet of n steps gave s
 --   Offered k s p answer t     offering the place p to s was answered so, and left t

@@ -2,7 +2,7 @@
 --
 --   Outcome                 what a call that may be refused answers: done, or why not
 --   Cause                   a test, and the refusal that it leads to
---   first_of causes          refused with the first cause that holds, done where none does
+--   first_of causes         refused with the first cause that holds, done where none does
 --   causes k n A p new      the causes for which a sheet of n steps, with the places A, on a ledger of kind k refuses the place p, in their order;
 --                           `new` are the rows that the sheet would have with the place
 --   verdict k n A p         what offering p to that sheet answers
