@@ -6,13 +6,12 @@ use Rattle.cycle_theory.specs.Method.{before, insert, ascending}
 
 -- the test `before` says Before
 pub before_true : (x y : Counts) → before x y ≡ true → Before x y
-before_true [] [] t = absurd (false≢true t)
 before_true [] (b ∷ y) t = tt
-before_true (a ∷ x) [] t = absurd (false≢true t)
 before_true (a ∷ x) (b ∷ y) t = elim (or_cases (ltb a b) (eqb a b && before x y) t) [
   | inl h ↦ inl (ltb-true a b h)
   | inr h ↦ inr (eqb-true a b (and_parts (eqb a b) (before x y) h).0, before_true x y (and_parts (eqb a b) (before x y) h).1)
 ]
+before_true x y t = absurd (false≢true t)
 
 -- where neither row is before the other, they are equal
 pub neither_before : (x y : Counts) → before x y ≡ false → before y x ≡ false → x ≡ y
@@ -53,7 +52,7 @@ pub record Put (x : Counts) (l m : List Counts) : Type 0 where
 
 -- insert keeps a list ascending
 pub put : (x : Counts) (l : List Counts) → Ascending l → Put x l (insert x l)
-put x [] a = record { asc = (λ y m. absurd m, tt); out = λ z m. m; now = inl refl; still = λ z m. absurd m }
+put x [] a = grind arith
 put x (y ∷ l) a =
     let r : Put x l (insert x l) = put x l a.1 in
     cond_both (before x y) (x ∷ y ∷ l) (cond (before y x) (y ∷ insert x l) (y ∷ l)) (Put x (y ∷ l))
@@ -84,7 +83,7 @@ mem_ascending (x ∷ l) z m = elim ((put x (ascending l) (ascending_ascends l)).
 
 pub ascending_mem : (l : List Counts) (z : Counts) → Mem z l → Mem z (ascending l)
 ascending_mem [] z m = m
-ascending_mem (x ∷ l) z (inl e) = subst (λ (v : Counts). Mem v (insert x (ascending l))) (sym e) (put x (ascending l) (ascending_ascends l)).now
+ascending_mem (x ∷ l) z (inl e) = grind (arith, put, ascending_ascends)
 ascending_mem (x ∷ l) z (inr m) = (put x (ascending l) (ascending_ascends l)).still z (ascending_mem l z m)
 
 -- the first rows are equal, since each stands in the other list; then the rest

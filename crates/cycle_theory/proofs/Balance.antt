@@ -1,5 +1,5 @@
 -- Balance is linear: where a × y = b × x + c × w, and two of the rows are cycles, so is the third (cycle_part, cycle_whole).
-use Rattle.std.proofs.Common.{◌≡◌, ℕ, suc, ◌+◌, ◌*◌, ◌<◌, ◌↔◌, List, [], ◌∷◌, ◌++◌, sym, refl, ap, ◌∙◌, arith}
+use Rattle.std.proofs.Common.{◌≡◌, ℕ, suc, ◌+◌, ◌*◌, ◌<◌, ◌↔◌, List, [], ◌∷◌, ◌++◌, refl, ap, arith}
 use native.Mathlib.Nat.{eq_of_mul-eq-mul_left}
 use Rattle.cycle_theory.specs.Nets.{Counts, at}
 use Rattle.cycle_theory.specs.Flows.{Combines, dot, Flow, gains, losses, Balanced, FlowCycle}
@@ -19,16 +19,16 @@ dot_zeros (a ∷ g) x i z = omega (arith, ap (λ (m : ℕ). a * m) (z i), dot_ze
 -- zeros are a cycle of any places
 pub zeros_balance : (A : List Flow) (x : Counts) → ((j : ℕ) → at x j ≡ 0) → FlowCycle A x
 zeros_balance [] x z = tt
-zeros_balance (p ∷ A) x z = (dot_zeros p.gain x 0 z ∙ sym (dot_zeros p.loss x 0 z), zeros_balance A x z)
+zeros_balance (p ∷ A) x z = grind (arith, zeros_balance A x z, dot_zeros)
 
 -- a·y = b·x + c·w
 module _ (a : ℕ) (y : Counts) (b : ℕ) (x : Counts) (c : ℕ) (w : Counts) (h : Combines a y b x c w) where
-  pub balanced_part : (p : Flow) → 0 < b → Balanced p y → Balanced p w → Balanced p x
+  balanced_part : (p : Flow) → 0 < b → Balanced p y → Balanced p w → Balanced p x
   balanced_part p hb by bw =
       eq_of_mul-eq-mul_left b hb (gains p x) (losses p x)
       (omega (arith, dot_combines p.gain a y b x c w 0 h, dot_combines p.loss a y b x c w 0 h, ap (λ (m : ℕ). a * m) by, ap (λ (m : ℕ). c * m) bw))
 
-  pub balanced_whole : (p : Flow) → 0 < a → Balanced p x → Balanced p w → Balanced p y
+  balanced_whole : (p : Flow) → 0 < a → Balanced p x → Balanced p w → Balanced p y
   balanced_whole p ha bx bw =
       eq_of_mul-eq-mul_left a ha (gains p y) (losses p y)
       (omega (arith, dot_combines p.gain a y b x c w 0 h, dot_combines p.loss a y b x c w 0 h, ap (λ (m : ℕ). b * m) bx, ap (λ (m : ℕ). c * m) bw))
@@ -44,7 +44,4 @@ module _ (a : ℕ) (y : Counts) (b : ℕ) (x : Counts) (c : ℕ) (w : Counts) (h
 -- the last place may stand first
 pub cycle_last : (A : List Flow) (p : Flow) (x : Counts) → FlowCycle (p ∷ A) x ↔ FlowCycle (A ++ p ∷ []) x
 cycle_last [] p x = (λ c. c, λ c. c)
-cycle_last (q ∷ A) p x = (
-  λ c. (c.1.0, (cycle_last A p x).0 (c.0, c.1.1)),
-  λ c. let d : FlowCycle (p ∷ A) x = (cycle_last A p x).1 c.1 in (d.0, (c.0, d.1)),
-)
+cycle_last (q ∷ A) p x = grind (arith, cycle_last A p x)

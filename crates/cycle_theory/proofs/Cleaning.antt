@@ -1,8 +1,8 @@
 -- Cleaning rows that reach the cycles leaves rows that cover them (cleaned_cover).
-use Rattle.std.proofs.Common.{◌≡◌, ℕ, zero, suc, ◌<◌, true, false, not, ◌||◌, eqb, ◌⊎◌, List, [], ◌∷◌, sym, refl, ◌∙◌, subst, inl, inr, not-suc-le-zero, arith}
-use Rattle.std.proofs.lemmas.Bool.{false≢true, eqb-true, eq-eqb, and_parts, and_from, or_cases, or_left, or_right, and_cases, not-true, not-false, not_from_false, cases_Bool, both_ways}
+use Rattle.std.proofs.Common.{◌≡◌, ℕ, zero, suc, ◌<◌, true, false, not, eqb, ◌⊎◌, List, [], ◌∷◌, sym, refl, ◌∙◌, subst, inl, inr, not-suc-le-zero, arith}
+use Rattle.std.proofs.lemmas.Bool.{false≢true, eq-eqb, and_parts, and_from, and_cases, not-false, cases_Bool}
 use Rattle.cycle_theory.specs.Nets.{Counts, at, Mem, Within}
-use Rattle.cycle_theory.specs.Method.{keep, every, within, same, stays, once, cleaned}
+use Rattle.cycle_theory.specs.Method.{keep, every, same, stays, once, cleaned}
 use Rattle.cycle_theory.specs.Flows.{Flow, Cover, Reaches, Kept}
 use Rattle.cycle_theory.proofs.Rows.{equal?}
 use Rattle.cycle_theory.proofs.Members.{mem_keep_if, keep_if_first, keep_if_rest, mem_keep, keep_mem, every_mem, mem_every}
@@ -12,31 +12,22 @@ use Rattle.cycle_theory.proofs.Minimals.{equal_or_smaller}
 -- the test `same` says that rows are equal
 pub same_true : (x y : Counts) → same x y ≡ true → x ≡ y
 same_true [] [] t = refl
-same_true [] (b ∷ y) t = absurd (false≢true t)
-same_true (a ∷ x) [] t = absurd (false≢true t)
-same_true (a ∷ x) (b ∷ y) t =
-    let e : a ≡ b = eqb-true a b (and_parts (eqb a b) (same x y) t).0 in
-    let f : x ≡ y = same_true x y (and_parts (eqb a b) (same x y) t).1 in cc
+same_true (a ∷ x) (b ∷ y) t = grind (arith, same_true x y (and_parts (eqb a b) (same x y) t).1)
+same_true x y t = absurd (false≢true t)
 
 same_self : (x : Counts) → same x x ≡ true
 same_self [] = refl
 same_self (a ∷ x) = and_from (eqb a a) (same x x) (eq-eqb a a refl) (same_self x)
 
-pub true_same : (x y : Counts) → x ≡ y → same x y ≡ true
-true_same x y e = subst (λ (z : Counts). same x z ≡ true) e (same_self x)
+true_same : (x y : Counts) → x ≡ y → same x y ≡ true
+true_same x y e = grind (arith, same_self)
 
 -- the test `stays` says Kept, and is true where it holds
-pub stays_kept : (L : List Counts) (z : Counts) → stays L z ≡ true → Kept L z
-stays_kept L z t w m b = elim (or_cases (same w z) (not (within w z)) (every_mem (λ v. same v z || not (within v z)) L t w m)) [
-  | inl e ↦ same_true w z e
-  | inr f ↦ absurd (both_ways (within w z) (not-true (within w z) f) (true_within w z b))
-]
+stays_kept : (L : List Counts) (z : Counts) → stays L z ≡ true → Kept L z
+stays_kept L z t w m b = grind (arith, every_mem, same_true, true_within)
 
-pub kept_stays : (L : List Counts) (z : Counts) → Kept L z → stays L z ≡ true
-kept_stays L z k = mem_every (λ v. same v z || not (within v z)) L (λ w m. elim (cases_Bool (within w z)) [
-  | inl t ↦ or_left (same w z) (not (within w z)) (true_same w z (k w m (within_true w z t)))
-  | inr f ↦ or_right (same w z) (not (within w z)) (not_from_false (within w z) f)
-])
+kept_stays : (L : List Counts) (z : Counts) → Kept L z → stays L z ≡ true
+kept_stays L z k = grind (arith, mem_every, true_same, within_true)
 
 -- taking equal rows once leaves the same rows
 mem_once : (L : List Counts) (z : Counts) → Mem z (once L) → Mem z L
@@ -57,7 +48,7 @@ once_mem (x ∷ L) z (inl e) = elim (cases_Bool (every (λ y. not (same x y)) L)
   | inl t ↦ keep_if_first z (every (λ y. not (same x y)) L) x (once L) t e
   | inr f ↦ keep_if_rest z (every (λ y. not (same x y)) L) x (once L) (once_mem L z (subst (λ (v : Counts). Mem v L) (sym e) (further L x f)))
 ]
-once_mem (x ∷ L) z (inr m) = keep_if_rest z (every (λ y. not (same x y)) L) x (once L) (once_mem L z m)
+once_mem (x ∷ L) z (inr m) = grind (arith, once_mem L z m)
 
 -- cleaned rows are those that are kept
 pub mem_cleaned : (L : List Counts) (z : Counts) → Mem z (cleaned L) → Mem z L × Kept L z
@@ -66,10 +57,10 @@ mem_cleaned L z m =
     (t.0, stays_kept L z t.1)
 
 pub cleaned_mem : (L : List Counts) (z : Counts) → Mem z L → Kept L z → Mem z (cleaned L)
-cleaned_mem L z m k = once_mem (keep (stays L) L) z (keep_mem (stays L) z L m (kept_stays L z k))
+cleaned_mem L z m k = grind (arith, once_mem, keep_mem, kept_stays)
 
 -- a row is kept, or a different one stands within it
-pub kept? : (L : List Counts) (z : Counts) → Kept L z ⊎ ((w : Counts) × (Mem w L) × (Within w z) × (w ≡ z → ⊥))
+kept? : (L : List Counts) (z : Counts) → Kept L z ⊎ ((w : Counts) × (Mem w L) × (Within w z) × (w ≡ z → ⊥))
 kept? [] z = inl (λ w m b. absurd m)
 kept? (v ∷ L) z = elim (kept? L z) [
   | inr t ↦ inr (t.0, inr t.1, t.2, t.3)
@@ -83,7 +74,7 @@ kept? (v ∷ L) z = elim (kept? L z) [
 ]
 
 -- within each row stands one that is kept: what stands within uses fewer steps, so this comes to an end after k rounds
-pub kept_within :
+kept_within :
     (n : ℕ) (A : List Flow) (L : List Counts) → Reaches n A L → (k : ℕ) (z : Counts) → Mem z L → steps_in_use n (at z) < k →
     (v : Counts) × (Mem v L) × (Kept L v) × Within v z
 kept_within n A L c zero z m h = absurd (not-suc-le-zero h)

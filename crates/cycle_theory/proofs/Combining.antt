@@ -1,5 +1,5 @@
 -- The row of a pair: it uses the steps of both, the place is balanced on it, and nothing but 1 divides it (pair_candidate).
-use Rattle.std.proofs.Common.{◌≡◌, ℕ, zero, suc, ◌+◌, ◌-◌, ◌*◌, ◌<◌, List, ◌∷◌, length, sym, ap, ◌∙◌, inl, inr, eq-zero-or-pos, mul-pos, arith}
+use Rattle.std.proofs.Common.{◌≡◌, ℕ, ◌+◌, ◌-◌, ◌*◌, ◌<◌, List, ◌∷◌, length, sym, ap, ◌∙◌, mul-pos, arith}
 use native.Mathlib.Nat.{eq_of_mul-eq-mul_left}
 use Rattle.cycle_theory.specs.Nets.{Counts, at, Nonzero, Within}
 use Rattle.cycle_theory.specs.Method.{weighted, divisor, divided}
@@ -9,8 +9,7 @@ use Rattle.cycle_theory.proofs.Divisors.{divisor_positive, divided_long, divided
 use Rattle.cycle_theory.proofs.Balance.{dot_combines, cycle_whole}
 
 weighted_at : (r : ℕ) (u : Counts) (s : ℕ) (v : Counts) → length v ≡ length u → (j : ℕ) → at (weighted r u s v) j ≡ r * at u j + s * at v j
-weighted_at r u s v l = at_tabulate_all (length u) (λ j. r * at u j + s * at v j)
-    (λ j h. omega (arith, ap (λ (m : ℕ). r * m) (at_past u j h), ap (λ (m : ℕ). s * m) (at_past v j (omega arith))))
+weighted_at r u s v l = grind (arith, at_tabulate_all, at_past)
 
 -- z is r × u + s × v divided by the divisor g of its counts
 pub record Joined (n r : ℕ) (u : Counts) (s : ℕ) (v z : Counts) : Type 0 where
@@ -20,7 +19,7 @@ pub record Joined (n r : ℕ) (u : Counts) (s : ℕ) (v z : Counts) : Type 0 whe
   pub long : length z ≡ n
   pub primitive : Primitive z
 
-pub join : (n r : ℕ) (u : Counts) (s : ℕ) (v : Counts) → length u ≡ n → length v ≡ n → 0 < r → Nonzero u → Joined n r u s v (divided (weighted r u s v))
+join : (n r : ℕ) (u : Counts) (s : ℕ) (v : Counts) → length u ≡ n → length v ≡ n → 0 < r → Nonzero u → Joined n r u s v (divided (weighted r u s v))
 join n r u s v lu lv hr nu =
     let x : Counts = weighted r u s v in
     let is : (j : ℕ) → at x j ≡ r * at u j + s * at v j = weighted_at r u s v (lv ∙ sym lu) in
@@ -33,26 +32,16 @@ join n r u s v lu lv hr nu =
       primitive = divided_primitive x nx;
     }
 
-pos_cancel : (a b : ℕ) → 0 < a * b → 0 < b
-pos_cancel a zero h = absurd (omega arith)
-pos_cancel a (suc b) h = omega arith
-
 -- the joined row uses the steps of both, and no other
 module _ (n r : ℕ) (u : Counts) (s : ℕ) (v z : Counts) (j : Joined n r u s v z) where
   pub left_within : 0 < r → Within u z
-  left_within hr i h = pos_cancel j.g (at z i) (omega (arith, j.combines i, mul-pos hr h))
+  left_within hr i h = grind arith
 
   pub right_within : 0 < s → Within v z
-  right_within hs i h = pos_cancel j.g (at z i) (omega (arith, j.combines i, mul-pos hs h))
+  right_within hs i h = grind arith
 
   pub joined_within : (x : Counts) → Within u x → Within v x → Within z x
-  joined_within x bu bv i h = elim (eq-zero-or-pos (at u i)) [
-    | inr pu ↦ bu i pu
-    | inl eu ↦ elim (eq-zero-or-pos (at v i)) [
-      | inr pv ↦ bv i pv
-      | inl ev ↦ absurd (omega (arith, j.combines i, mul-pos j.pos h, ap (λ (m : ℕ). r * m) eu, ap (λ (m : ℕ). s * m) ev))
-    ]
-  ]
+  joined_within x bu bv i h = grind arith
 
 -- (d − c) × a + (a − b) × c = (d − c) × b + (a − b) × d: what the pair's row gains is what it loses
 balance : (g a b c d x y : ℕ) → 0 < g → b < a → c < d → g * x ≡ (d - c) * a + (a - b) * c → g * y ≡ (d - c) * b + (a - b) * d → x ≡ y
@@ -69,7 +58,7 @@ balance g a b c d x y hg h k p q =
 -- a pair of candidates, of which the place p gains by u and loses by v
 module _ (n : ℕ) (A : List Flow) (p : Flow) (u v : Counts) (gu : Candidate n A u) (gv : Candidate n A v) (hu : losses p u < gains p u) (hv : gains p v < losses p v) where
   pub pair_joined : Joined n (shortfall p v) u (excess p u) v (pair_row p u v)
-  pair_joined = join n (shortfall p v) u (excess p u) v gu.long gv.long (omega arith) gu.nonzero
+  pair_joined = grind (arith, join)
 
   pub pair_candidate : Candidate n (p ∷ A) (pair_row p u v)
   pair_candidate =

@@ -64,7 +64,7 @@ spend (v ∷ R) x (c ∷ cs) l us w (inr h) b m =
 wider : (R : List Counts) (cs : List ℕ) (x y : Counts) → Within x y → Uses cs R x → Uses cs R y
 wider R [] x y b us = tt
 wider [] (c ∷ cs) x y b us = tt
-wider (w ∷ R) (c ∷ cs) x y b us = (λ h j q. b j (us.0 h j q), wider R cs x y b us.1)
+wider (w ∷ R) (c ∷ cs) x y b us = grind (arith, wider R cs x y b us.1)
 
 -- the walk gives the coefficients: each round multiplies them by p and adds s to that of the row taken
 pub decompose : (n : ℕ) (A : List Flow) (R : List Counts) → Cover n A R → (x : Counts) → length x ≡ n → FlowCycle A x → Decomposed R x

@@ -1,5 +1,5 @@
 -- Euclid's algorithm: a row divided by the common divisor of its counts has none but 1 (divided_primitive).
-use Rattle.std.proofs.Common.{◌≡◌, ℕ, zero, suc, ◌+◌, ◌-◌, ◌*◌, ◌/◌, ◌%◌, ◌<◌, ◌≤◌, [], ◌∷◌, length, sym, ap, ◌∙◌, inl, inr, not-suc-le-zero, mod-lt, eq-zero-or-pos, arith}
+use Rattle.std.proofs.Common.{rules, ◌≡◌, ℕ, zero, suc, ◌+◌, ◌-◌, ◌*◌, ◌/◌, ◌%◌, ◌<◌, ◌≤◌, [], ◌∷◌, length, sym, ap, ◌∙◌, inl, inr, not-suc-le-zero, mod-lt, eq-zero-or-pos, arith}
 use native.Mathlib.Nat.{eq_of_mul-eq-mul_left, mul-sub, div-add-mod, mul-div_cancel_left, zero-div}
 use Rattle.cycle_theory.specs.Nets.{Counts, at, Nonzero}
 use Rattle.cycle_theory.specs.Method.{gcd_to, gcd, divisor, divided}
@@ -29,9 +29,7 @@ gcd_divides : (k a b : ℕ) → b ≤ k → Factor (gcd_to k a b) a × Factor (g
 gcd_divides zero a zero h = (div_self a, div_zero a)
 gcd_divides zero a (suc b) h = absurd (not-suc-le-zero h)
 gcd_divides (suc k) a zero h = (div_self a, div_zero a)
-gcd_divides (suc k) a (suc b) h =
-    let r : Factor (gcd_to k (suc b) (a % suc b)) (suc b) × Factor (gcd_to k (suc b) (a % suc b)) (a % suc b) = gcd_divides k (suc b) (a % suc b) (omega (arith, mod-lt a {m = suc b} (omega arith))) in
-    (div_up (gcd_to k (suc b) (a % suc b)) a (suc b) r.0 r.1, r.0)
+gcd_divides (suc k) a (suc b) h = search (rules, gcd_divides k (suc b) (a % suc b) (omega (arith, mod-lt a {m = suc b} (omega arith))), div_up)
 
 -- and whatever divides both divides it
 gcd_greatest : (d k a b : ℕ) → Factor d a → Factor d b → Factor d (gcd_to k a b)
@@ -53,9 +51,8 @@ divisor_greatest d [] h = div_zero d
 divisor_greatest d (a ∷ x) h = gcd_greatest d (divisor x) a (divisor x) (h 0) (divisor_greatest d x (λ j. h (suc j)))
 
 pub one_of_product : (d q : ℕ) → d * q ≡ 1 → d ≡ 1
-one_of_product zero q h = absurd (omega arith)
-one_of_product (suc d) zero h = absurd (omega arith)
 one_of_product (suc d) (suc q) h = omega arith
+one_of_product d q h = absurd (omega arith)
 
 module _ (x : Counts) (nx : Nonzero x) where
   -- of a row with a count that is not 0 the divisor is not 0, so that it can be divided by
@@ -76,7 +73,7 @@ module _ (x : Counts) (nx : Nonzero x) where
       ap (λ (m : ℕ). divisor x * m) (is ∙ q) ∙ sym d.1
 
   pub divided_long : length (divided x) ≡ length x
-  divided_long = length_tabulate (length x) (λ j. at x j / divisor x)
+  divided_long = grind (arith, length_tabulate)
 
   -- a common divisor of the divided row, times the divisor, is a common divisor of the row, so it is 1
   pub divided_primitive : Primitive (divided x)

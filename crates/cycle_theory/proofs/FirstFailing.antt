@@ -1,12 +1,12 @@
 -- Where a list stops passing a test: the first element that fails stands behind exactly the leading ones.
-use Rattle.std.proofs.Common.{◌≡◌, ℕ, zero, suc, ◌+◌, ◌<◌, ◌≤◌, Bool, true, false, List, [], ◌∷◌, length, get_or, sym, refl, ap, ◌∙◌, subst, inl, inr, le_of_suc-le-suc, not-suc-le-zero, arith}
+use Rattle.std.proofs.Common.{◌≡◌, ℕ, zero, suc, ◌+◌, ◌<◌, ◌≤◌, Bool, true, false, List, [], ◌∷◌, length, get_or, refl, ap, ◌∙◌, subst, inl, inr, le_of_suc-le-suc, not-suc-le-zero, arith}
 use Rattle.std.specs.List.{prefix_len}
-use Rattle.std.proofs.lemmas.Bool.{cases_Bool, cond-true, cond-false}
+use Rattle.std.proofs.lemmas.Bool.{cases_Bool, cond-false}
 use Rattle.cycle_theory.specs.Nets.{Mem}
 
 module _ {A : Type 0} (p : A → Bool) (d : A) where
   leading_yes : (x : A) (l : List A) → p x ≡ true → prefix_len p (x ∷ l) ≡ suc (prefix_len p l)
-  leading_yes x l t = cond-true (p x) (1 + prefix_len p l) 0 t ∙ omega arith
+  leading_yes x l t = grind arith
 
   leading_no : (x : A) (l : List A) → p x ≡ false → prefix_len p (x ∷ l) ≡ 0
   leading_no x l f = cond-false (p x) (1 + prefix_len p l) 0 f
@@ -14,10 +14,7 @@ module _ {A : Type 0} (p : A → Bool) (d : A) where
   -- the elements before it pass
   pub passes_before : (l : List A) (i : ℕ) → i < prefix_len p l → p (get_or l i d) ≡ true
   passes_before [] i h = absurd (not-suc-le-zero h)
-  passes_before (x ∷ l) zero h = elim (cases_Bool (p x)) [
-    | inl t ↦ t
-    | inr f ↦ absurd (not-suc-le-zero (subst (λ n. 0 < n) (leading_no x l f) h))
-  ]
+  passes_before (x ∷ l) zero h = grind arith
   passes_before (x ∷ l) (suc i) h = elim (cases_Bool (p x)) [
     | inl t ↦ passes_before l i (le_of_suc-le-suc (subst (λ n. suc i < n) (leading_yes x l t) h))
     | inr f ↦ absurd (not-suc-le-zero (subst (λ n. suc i < n) (leading_no x l f) h))
@@ -57,11 +54,8 @@ module _ {A : Type 0} (p : A → Bool) (d : A) where
   -- a member that fails
   pub stops_before : (l : List A) (a : A) → Mem a l → p a ≡ false → prefix_len p l < length l
   stops_before [] a m f = absurd m
-  stops_before (x ∷ l) a (inl e) f = subst (λ n. n < suc (length l)) (sym (leading_no x l (subst (λ b. p b ≡ false) e f))) (omega arith)
-  stops_before (x ∷ l) a (inr m) f = elim (cases_Bool (p x)) [
-    | inl t ↦ let r = stops_before l a m f in let e = leading_yes x l t in omega (arith, r, e)
-    | inr g ↦ subst (λ n. n < suc (length l)) (sym (leading_no x l g)) (omega arith)
-  ]
+  stops_before (x ∷ l) a (inl e) f = grind arith
+  stops_before (x ∷ l) a (inr m) f = grind (arith, stops_before l a m f)
 
 pub mem_get_or : {A : Type 0} (l : List A) (i : ℕ) (d : A) → i < length l → Mem (get_or l i d) l
 mem_get_or [] i d h = absurd (not-suc-le-zero h)

@@ -1,12 +1,10 @@
 -- The sum in integers is what the place gains less what it loses (sum_said), so the method's step is that of the flows (step_flow).
-use Rattle.std.proofs.Common.{◌≡◌, ℕ, suc, ◌+◌, ◌-◌, ◌<◌, Bool, eqb, ltb, ◌↔◌, List, [], ◌∷◌, ◌++◌, map, ℤ, pos, negsuc, ◌+ℤ◌, ◌*ℤ◌, ◌<ℤ◌, sym, refl, ap, ◌∙◌, subst, inl, inr, arith}
+use Rattle.std.proofs.Common.{◌≡◌, ℕ, suc, ◌+◌, ◌<◌, Bool, eqb, ltb, ◌↔◌, List, [], ◌∷◌, map, pos, negsuc, ◌<ℤ◌, sym, refl, ◌∙◌, subst, inl, inr, arith}
 use lib.IntN.{sub_ℕ}
 use borrow.Author.Differences.{ints, up, down, same_in, same_out}
-use Rattle.std.proofs.lemmas.Bool.{ltb-true, ltb-false, cond_both}
-use Rattle.std.proofs.lemmas.Bool.Decides.{nat_tests}
-use Rattle.cycle_theory.specs.Nets.{Counts, at, Mem, Place, sum}
-use Rattle.cycle_theory.specs.Method.{surplus, deficit, is_zero, is_positive, is_negative, weighted, combined, divided, keep_if, keep, pairs, all_rows, cleaned, step, ascending}
-use Rattle.cycle_theory.specs.Flows.{sum_from, dot, flow, gains, losses, Balanced, FlowCycle, shortfall, pair_row, flow_pairs, flow_rows, flow_step}
+use Rattle.cycle_theory.specs.Nets.{Counts, Mem, Place, sum}
+use Rattle.cycle_theory.specs.Method.{surplus, deficit, is_zero, is_positive, is_negative, combined, divided, keep, pairs, all_rows, step}
+use Rattle.cycle_theory.specs.Flows.{sum_from, dot, flow, gains, losses, Balanced, FlowCycle, pair_row, flow_pairs, flow_rows, flow_step}
 
 -- the sum from step i on, where an index runs along with the effects
 difference : (p : Place) (x : Counts) (i : ℕ) → up (sum_from p x i) + dot (map deficit p) x i ≡ down (sum_from p x i) + dot (map surplus p) x i
@@ -15,23 +13,22 @@ difference (pos n ∷ p) x i = omega (arith, ints, difference p x (suc i))
 difference (negsuc n ∷ p) x i = omega (arith, ints, difference p x (suc i))
 
 pub sub_parts : (a b : ℕ) → up (sub_ℕ a b) + b ≡ down (sub_ℕ a b) + a
-sub_parts a b = cond_both (ltb a b) (negsuc (b - suc a)) (pos (a - b)) (λ z. up z + b ≡ down z + a)
-    (λ t. omega (arith, ltb-true a b t)) (λ t. omega (arith, ltb-false a b t))
+sub_parts a b = grind arith
 
 sum_past : (p : Place) (c : ℕ) (x : Counts) (i : ℕ) → sum_from p (c ∷ x) (suc i) ≡ sum_from p x i
 sum_past [] c x i = refl
-sum_past (e ∷ p) c x i = ap (λ (s : ℤ). (e *ℤ pos (at x i)) +ℤ s) (sum_past p c x (suc i))
+sum_past (e ∷ p) c x i = grind (arith, sum_past p c x (suc i))
 
 sum_none : (p : Place) (i : ℕ) → sum_from p [] i ≡ pos 0
 sum_none [] i = refl
-sum_none (pos n ∷ p) i = same_in (sum_from (pos n ∷ p) [] i) (pos 0) (omega (arith, ints, same_out (sum_from p [] (suc i)) (pos 0) (sum_none p (suc i))))
-sum_none (negsuc n ∷ p) i = same_in (sum_from (negsuc n ∷ p) [] i) (pos 0) (omega (arith, ints, same_out (sum_from p [] (suc i)) (pos 0) (sum_none p (suc i))))
+sum_none (pos n ∷ p) i = grind (arith, sum_none p (suc i))
+sum_none (negsuc n ∷ p) i = grind (arith, sum_none p (suc i))
 
 -- from step 0 on it is the sum
 pub sum_from_start : (p : Place) (x : Counts) → sum_from p x 0 ≡ sum p x
 sum_from_start [] x = refl
 sum_from_start (e ∷ p) [] = sum_none (e ∷ p) 0
-sum_from_start (e ∷ p) (c ∷ x) = ap (λ (s : ℤ). (e *ℤ pos c) +ℤ s) (sum_past p c x 0 ∙ sum_from_start p x)
+sum_from_start (e ∷ p) (c ∷ x) = grind (arith, sum_from_start p x, sum_past)
 
 -- the sum is the gains less the losses
 pub sum_said : (p : Place) (x : Counts) → sum p x ≡ sub_ℕ (gains (flow p) x) (losses (flow p) x)
@@ -57,79 +54,38 @@ cycle_said (q ∷ places) x = (
   ],
 )
 
--- the sign and the size of a difference
-zero_difference : (a b : ℕ) → is_zero (sub_ℕ a b) ≡ eqb a b
-zero_difference a b = cond_both (ltb a b) (negsuc (b - suc a)) (pos (a - b)) (λ z. is_zero z ≡ eqb a b)
-    (λ t. grind (arith, nat_tests)) (λ t. grind (arith, nat_tests))
-
-positive_difference : (a b : ℕ) → is_positive (sub_ℕ a b) ≡ ltb b a
-positive_difference a b = cond_both (ltb a b) (negsuc (b - suc a)) (pos (a - b)) (λ z. is_positive z ≡ ltb b a)
-    (λ t. grind (arith, nat_tests)) (λ t. grind (arith, nat_tests))
-
-negative_difference : (a b : ℕ) → is_negative (sub_ℕ a b) ≡ ltb a b
-negative_difference a b = cond_both (ltb a b) (negsuc (b - suc a)) (pos (a - b)) (λ z. is_negative z ≡ ltb a b) sym sym
-
-surplus_difference : (a b : ℕ) → surplus (sub_ℕ a b) ≡ a - b
-surplus_difference a b = cond_both (ltb a b) (negsuc (b - suc a)) (pos (a - b)) (λ z. surplus z ≡ a - b)
-    (λ t. omega (arith, ltb-true a b t)) (λ t. refl)
-
-deficit_difference : (a b : ℕ) → deficit (sub_ℕ a b) ≡ b - a
-deficit_difference a b = cond_both (ltb a b) (negsuc (b - suc a)) (pos (a - b)) (λ z. deficit z ≡ b - a)
-    (λ t. omega (arith, ltb-true a b t)) (λ t. omega (arith, ltb-false a b t))
-
 -- a positive sum is a gain above the loss, and a negative sum a loss above the gain
 pub gains_said : (p : Place) (x : Counts) → pos 0 <ℤ sum p x → losses (flow p) x < gains (flow p) x
-gains_said p x h =
-    let d : pos 0 <ℤ sub_ℕ (gains (flow p) x) (losses (flow p) x) = subst (λ (z : ℤ). pos 0 <ℤ z) (sum_said p x) h in
-    omega (arith, ints, sub_parts (gains (flow p) x) (losses (flow p) x))
+gains_said p x h = grind (arith, sum_said)
 
 pub loses_said : (p : Place) (x : Counts) → sum p x <ℤ pos 0 → gains (flow p) x < losses (flow p) x
-loses_said p x h =
-    let d : sub_ℕ (gains (flow p) x) (losses (flow p) x) <ℤ pos 0 = subst (λ (z : ℤ). z <ℤ pos 0) (sum_said p x) h in
-    omega (arith, ints, sub_parts (gains (flow p) x) (losses (flow p) x))
+loses_said p x h = grind (arith, sum_said)
 
 -- the row of a pair is the same in integers and in flows
 pub pair_flow : (p : Place) (u v : Counts) → divided (combined p u v) ≡ pair_row (flow p) u v
-pair_flow p u v =
-    ap (λ (r : ℕ). divided (weighted r u (surplus (sum p u)) v)) (ap deficit (sum_said p v) ∙ deficit_difference (gains (flow p) v) (losses (flow p) v))
-    ∙ ap (λ (s : ℕ). divided (weighted (shortfall (flow p) v) u s v)) (ap surplus (sum_said p u) ∙ surplus_difference (gains (flow p) u) (losses (flow p) u))
+pair_flow p u v = grind (arith, sum_said)
 
 -- tests and functions that agree at every row filter and map alike
 keep_same : (f g : Counts → Bool) → ((x : Counts) → f x ≡ g x) → (rows : List Counts) → keep f rows ≡ keep g rows
 keep_same f g h [] = refl
-keep_same f g h (x ∷ rows) = ap (λ b. keep_if b x (keep f rows)) (h x) ∙ ap (keep_if (g x) x) (keep_same f g h rows)
+keep_same f g h (x ∷ rows) = grind arith
 
 map_same : (f g : Counts → Counts) → ((x : Counts) → f x ≡ g x) → (rows : List Counts) → map f rows ≡ map g rows
 map_same f g h [] = refl
-map_same f g h (x ∷ rows) =
-    let e : f x ≡ g x = h x in
-    let t : map f rows ≡ map g rows = map_same f g h rows in cc
+map_same f g h (x ∷ rows) = grind arith
 
 pairs_flow : (p : Place) (us vs : List Counts) → pairs p us vs ≡ flow_pairs (flow p) us vs
 pairs_flow p [] vs = refl
-pairs_flow p (u ∷ us) vs =
-    let e : map (λ v. divided (combined p u v)) vs ≡ map (pair_row (flow p) u) vs = map_same (λ v. divided (combined p u v)) (pair_row (flow p) u) (pair_flow p u) vs in
-    let t : pairs p us vs ≡ flow_pairs (flow p) us vs = pairs_flow p us vs in
-    ap (λ (l : List Counts). l ++ pairs p us vs) e ∙ ap (λ (l : List Counts). map (pair_row (flow p) u) vs ++ l) t
+pairs_flow p (u ∷ us) vs = grind (arith, pairs_flow p us vs, pair_flow)
 
 -- the rows before cleaning are the same
-pub rows_flow : (p : Place) (rows : List Counts) → all_rows p rows ≡ flow_rows (flow p) rows
+rows_flow : (p : Place) (rows : List Counts) → all_rows p rows ≡ flow_rows (flow p) rows
 rows_flow p rows =
-    let zero-rows : keep (λ x. is_zero (sum p x)) rows ≡ keep (λ x. eqb (gains (flow p) x) (losses (flow p) x)) rows =
-    keep_same (λ x. is_zero (sum p x)) (λ x. eqb (gains (flow p) x) (losses (flow p) x))
-    (λ x. ap is_zero (sum_said p x) ∙ zero_difference (gains (flow p) x) (losses (flow p) x)) rows in
-    let gaining : keep (λ u. is_positive (sum p u)) rows ≡ keep (λ u. ltb (losses (flow p) u) (gains (flow p) u)) rows =
-    keep_same (λ u. is_positive (sum p u)) (λ u. ltb (losses (flow p) u) (gains (flow p) u))
-    (λ u. ap is_positive (sum_said p u) ∙ positive_difference (gains (flow p) u) (losses (flow p) u)) rows in
-    let losing : keep (λ v. is_negative (sum p v)) rows ≡ keep (λ v. ltb (gains (flow p) v) (losses (flow p) v)) rows =
-    keep_same (λ v. is_negative (sum p v)) (λ v. ltb (gains (flow p) v) (losses (flow p) v))
-    (λ v. ap is_negative (sum_said p v) ∙ negative_difference (gains (flow p) v) (losses (flow p) v)) rows in
-    ap (λ (l : List Counts). l ++ pairs p (keep (λ u. is_positive (sum p u)) rows) (keep (λ v. is_negative (sum p v)) rows)) zero-rows
-    ∙ ap (λ (l : List Counts). keep (λ x. eqb (gains (flow p) x) (losses (flow p) x)) rows ++ l)
-    (pairs_flow p (keep (λ u. is_positive (sum p u)) rows) (keep (λ v. is_negative (sum p v)) rows)
-    ∙ ap (λ (l : List Counts). flow_pairs (flow p) l (keep (λ v. is_negative (sum p v)) rows)) gaining
-    ∙ ap (λ (l : List Counts). flow_pairs (flow p) (keep (λ u. ltb (losses (flow p) u) (gains (flow p) u)) rows) l) losing)
+    let zero-rows = keep_same (λ x. is_zero (sum p x)) (λ x. eqb (gains (flow p) x) (losses (flow p) x)) (λ x. grind (arith, sum_said)) rows in
+    let gaining = keep_same (λ u. is_positive (sum p u)) (λ u. ltb (losses (flow p) u) (gains (flow p) u)) (λ u. grind (arith, sum_said)) rows in
+    let losing = keep_same (λ v. is_negative (sum p v)) (λ v. ltb (gains (flow p) v) (losses (flow p) v)) (λ v. grind (arith, sum_said)) rows in
+    cc (pairs_flow p (keep (λ u. is_positive (sum p u)) rows) (keep (λ v. is_negative (sum p v)) rows))
 
 -- and so are those after it
 pub step_flow : (p : Place) (rows : List Counts) → step p rows ≡ flow_step (flow p) rows
-step_flow p rows = ap (λ (l : List Counts). ascending (cleaned l)) (rows_flow p rows)
+step_flow p rows = grind (arith, rows_flow)

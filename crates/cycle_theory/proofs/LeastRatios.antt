@@ -1,6 +1,6 @@
 -- The least ratio of a rest and a row: `least_ratio_is_least` says that it is least, is reached, and is in lowest terms.
-use Rattle.std.proofs.Common.{◌≡◌, ℕ, zero, suc, ◌*◌, ◌/◌, ◌<◌, ◌≤◌, true, false, ltb, ◌⊎◌, [], ◌∷◌, length, sym, refl, ap, ◌∙◌, subst, inl, inr, le_of_suc-le-suc, not-suc-le-zero, mul-le-mul_right, eq-zero-or-pos, eq-or-lt_of_le, mul-le-mul_left, arith}
-use native.Mathlib.Nat.{le_of_mul-le-mul_left, eq_of_mul-eq-mul_left, mul-div_cancel_left}
+use Rattle.std.proofs.Common.{rules, ◌≡◌, ℕ, zero, suc, ◌*◌, ◌/◌, ◌<◌, ◌≤◌, true, false, ltb, ◌⊎◌, [], ◌∷◌, length, sym, refl, ap, subst, inl, inr, not-suc-le-zero, mul-le-mul_right, eq-zero-or-pos, mul-le-mul_left, arith}
+use native.Mathlib.Nat.{le_of_mul-le-mul_left, eq_of_mul-eq-mul_left}
 use Rattle.std.proofs.lemmas.Bool.{ltb-true, ltb-false, lt-ltb, le-ltb, cases_Bool, cond-true, cond-false}
 use Rattle.cycle_theory.specs.Nets.{Counts, at}
 use Rattle.cycle_theory.specs.Flows.{Factor}
@@ -17,7 +17,7 @@ Found n w y r =
     ⊎ ((j : ℕ) × (0 < w j) × (r ≡ record { top = y j; bottom = w j }) × ((i : ℕ) → i < n → y j * w i ≤ w j * y i))
 
 by_last : (P : ℕ → Type 0) (n : ℕ) → ((i : ℕ) → i < n → P i) → P n → (i : ℕ) → i < suc n → P i
-by_last P n f l i h = elim (eq-or-lt_of_le (le_of_suc-le-suc h)) [ inl e ↦ subst P (sym e) l | inr lt ↦ f i lt ]
+by_last P n f l i h = grind arith
 
 over : (wj yj wn yn wi yi : ℕ) → 0 < wj → yn * wj < yj * wn → yj * wi ≤ wj * yi → yn * wi ≤ wn * yi
 over wj yj wn yn wi yi pos h k =
@@ -62,7 +62,7 @@ found_more n w y r (inr t) = subst (λ (q : Ratio). Found (suc n) w y (lesser q 
 found : (n : ℕ) (row rest : Counts) → Found n (at row) (at rest) (least_to n row rest)
 unfolding least_to
 found zero row rest = inl ((λ j h. absurd (not-suc-le-zero h)), refl)
-found (suc n) row rest = found_more n (at row) (at rest) (least_to n row rest) (found n row rest)
+found (suc n) row rest = search (rules, found n row rest, found_more)
 
 -- a ratio with a bottom, in lowest terms
 module _ (a b : ℕ) (pos : 0 < b) where
@@ -75,18 +75,14 @@ module _ (a b : ℕ) (pos : 0 < b) where
   pub gcd_pos : 0 < gcd a b
   gcd_pos = divisor_positive (a ∷ b ∷ []) (1, pos)
 
-  pub top_times : gcd a b * (a / gcd a b) ≡ a
-  top_times =
-      let q : a / gcd a b ≡ divides_top.0 = ap (λ (m : ℕ). m / gcd a b) divides_top.1 ∙ mul-div_cancel_left divides_top.0 {n = gcd a b} gcd_pos in
-      ap (λ (m : ℕ). gcd a b * m) q ∙ sym divides_top.1
+  top_times : gcd a b * (a / gcd a b) ≡ a
+  top_times = grind (arith, divides_top)
 
   pub bottom_times : gcd a b * (b / gcd a b) ≡ b
-  bottom_times =
-      let q : b / gcd a b ≡ divides_bottom.0 = ap (λ (m : ℕ). m / gcd a b) divides_bottom.1 ∙ mul-div_cancel_left divides_bottom.0 {n = gcd a b} gcd_pos in
-      ap (λ (m : ℕ). gcd a b * m) q ∙ sym divides_bottom.1
+  bottom_times = grind (arith, divides_bottom)
 
   pub bottom_pos : 0 < b / gcd a b
-  bottom_pos = elim (eq-zero-or-pos (b / gcd a b)) [ inl e ↦ omega (arith, bottom_times, ap (λ (m : ℕ). gcd a b * m) e) | inr p ↦ p ]
+  bottom_pos = grind (arith, bottom_times)
 
   no_common : (d : ℕ) → Factor d (a / gcd a b) → Factor d (b / gcd a b) → d ≡ 1
   no_common d s p =

@@ -1,5 +1,5 @@
 -- What stands in a list that was joined, filtered or mapped.
-use Rattle.std.proofs.Common.{◌≡◌, Bool, true, false, ◌⊎◌, List, [], ◌∷◌, ◌++◌, map, sym, refl, ap, ◌∙◌, inl, inr}
+use Rattle.std.proofs.Common.{arith, ◌≡◌, Bool, true, false, ◌⊎◌, List, [], ◌∷◌, ◌++◌, map, refl, ap, ◌∙◌, inl, inr}
 use Rattle.std.proofs.lemmas.Bool.{false≢true, and_parts, and_from}
 use Rattle.cycle_theory.specs.Nets.{Mem}
 use Rattle.cycle_theory.specs.Method.{keep_if, keep, every}
@@ -17,7 +17,7 @@ mem_right a (b ∷ l) m h = inr (mem_right a l m h)
 pub mem_append : {A : Type 0} (a : A) (l m : List A) → Mem a (l ++ m) → Mem a l ⊎ Mem a m
 mem_append a [] m h = inr h
 mem_append a (b ∷ l) m (inl e) = inl (inl e)
-mem_append a (b ∷ l) m (inr h) = elim (mem_append a l m h) [ inl q ↦ inl (inr q) | inr q ↦ inr q ]
+mem_append a (b ∷ l) m (inr h) = grind (arith, mem_append a l m h)
 
 -- a member that is kept or not
 pub mem_keep_if : {A : Type 0} (a : A) (b : Bool) (x : A) (l : List A) → Mem a (keep_if b x l) → ((b ≡ true) × (a ≡ x)) ⊎ Mem a l
@@ -43,7 +43,7 @@ mem_keep f a (x ∷ l) h = elim (mem_keep_if a (f x) x (keep f l) h) [
 
 pub keep_mem : {A : Type 0} (f : A → Bool) (a : A) (l : List A) → Mem a l → f a ≡ true → Mem a (keep f l)
 keep_mem f a [] h t = absurd h
-keep_mem f a (x ∷ l) (inl e) t = keep_if_first a (f x) x (keep f l) (ap f (sym e) ∙ t) e
+keep_mem f a (x ∷ l) (inl e) t = grind arith
 keep_mem f a (x ∷ l) (inr h) t = keep_if_rest a (f x) x (keep f l) (keep_mem f a l h t)
 
 -- a test that passes at every member

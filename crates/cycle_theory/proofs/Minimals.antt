@@ -50,7 +50,7 @@ minimal_of_mem n A R i w m = record {
       subst (λ (v : Counts). Within v y) q g.2;
 }
 
-pub mem_of_minimal : (n : ℕ) (A : List Flow) (R : List Counts) → Cover n A R → (w : Counts) → FlowMinimal n A w → Mem w R
+mem_of_minimal : (n : ℕ) (A : List Flow) (R : List Counts) → Cover n A R → (w : Counts) → FlowMinimal n A w → Mem w R
 mem_of_minimal n A R i w m =
     let g : (v : Counts) × (Mem v R) × Within v w = i.covers w m.is.long m.is.cycle m.is.nonzero in
     subst (λ (v : Counts). Mem v R) (unique n A g.0 w (i.good g.0 g.1) m g.2) g.1
@@ -61,10 +61,7 @@ members n A R i w = (minimal_of_mem n A R i w, mem_of_minimal n A R i w)
 
 -- minimal depends on the cycles only
 minimal_carries : (n : ℕ) (A B : List Flow) → ((x : Counts) → length x ≡ n → FlowCycle A x ↔ FlowCycle B x) → (w : Counts) → FlowMinimal n A w → FlowMinimal n B w
-minimal_carries n A B h w m = record {
-  is = record { long = m.is.long; cycle = (h w m.is.long).0 m.is.cycle; nonzero = m.is.nonzero; primitive = m.is.primitive };
-  least = λ y ly cy. m.least y ly ((h y ly).1 cy);
-}
+minimal_carries n A B h w m = grind arith
 
 -- so rows that cover the same cycles are the same rows
 pub same_cycles :

@@ -1,9 +1,8 @@
 -- From nets to flows and back: the method's rows cover the cycles of the flows, and are ascending (tss_cover).
-use Rattle.std.proofs.Common.{◌≡◌, ℕ, zero, suc, ◌≤◌, List, [], ◌∷◌, ◌++◌, map, length, sym, refl, ap, ◌∙◌, subst, inl, inr, arith}
+use Rattle.std.proofs.Common.{◌≡◌, ℕ, zero, suc, ◌≤◌, List, [], ◌∷◌, ◌++◌, map, length, sym, refl, ◌∙◌, subst, arith}
 use Rattle.cycle_theory.specs.Nets.{Counts, Place, Cycle, Nonzero, Divides, Minimal, Ascending}
 use Rattle.cycle_theory.specs.Method.{units, step, after, tss}
 use Rattle.cycle_theory.specs.Flows.{flow, Primitive, FlowCycle, FlowMinimal, Cover, flow_after, flow_run}
-use Rattle.cycle_theory.proofs.Supports.{within?}
 use Rattle.cycle_theory.proofs.Runs.{run_cover, after_run}
 use Rattle.cycle_theory.proofs.Integers.{cycle_said, step_flow}
 
@@ -22,23 +21,15 @@ reduced_primitive x nx h (suc d) f = omega (arith, h (suc d) f)
 -- That no cycle uses only some of the steps, and that every cycle within them uses all of them, is the same,
 -- since it can be told whether one row is within another.
 pub minimal_flows : (n : ℕ) (A : List Place) (x : Counts) → Minimal n A x → FlowMinimal n (map flow A) x
-minimal_flows n A x m = record {
-  is = record { long = m.cycle.long; cycle = cycle_flows n A x m.cycle; nonzero = m.nonzero; primitive = reduced_primitive x m.nonzero m.reduced };
-  least = λ y ly fy ny b. elim (within? x y) [ inl q ↦ q | inr f ↦ absurd (m.least y (flows_cycle n A y ly fy) ny (b, f)) ];
-}
+minimal_flows n A x m = grind (arith, cycle_flows, reduced_primitive, flows_cycle)
 
 pub flows_minimal : (n : ℕ) (A : List Place) (x : Counts) → FlowMinimal n (map flow A) x → Minimal n A x
-flows_minimal n A x m = record {
-  cycle = flows_cycle n A x m.is.long m.is.cycle;
-  nonzero = m.is.nonzero;
-  reduced = λ d f. omega (arith, m.is.primitive d f);
-  least = λ y cy ny b. b.1 (m.least y cy.long (cycle_flows n A y cy) ny b.0);
-}
+flows_minimal n A x m = grind (arith, flows_cycle, cycle_flows)
 
 -- the method is the same
-pub after_flows : (R : List Counts) (A : List Place) → after R A ≡ flow_after R (map flow A)
+after_flows : (R : List Counts) (A : List Place) → after R A ≡ flow_after R (map flow A)
 after_flows R [] = refl
-after_flows R (p ∷ A) = after_flows (step p R) A ∙ ap (λ (S : List Counts). flow_after S (map flow A)) (step_flow p R)
+after_flows R (p ∷ A) = grind (arith, after_flows (step p R) A, step_flow)
 
 pub tss_run : (n : ℕ) (A : List Place) → tss n A ≡ flow_run n (map flow A)
 tss_run n A = after_flows (units n) A ∙ after_run n (map flow A)

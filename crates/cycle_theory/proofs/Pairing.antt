@@ -1,5 +1,5 @@
 -- The balanced rows and the rows of all pairs reach every cycle of one place more (born_covers).
-use Rattle.std.proofs.Common.{◌≡◌, ℕ, suc, ◌+◌, ◌*◌, ◌<◌, ◌≤◌, List, ◌∷◌, length, sym, refl, ap, subst, inl, inr, mul-le-mul_left, arith}
+use Rattle.std.proofs.Common.{rules, ◌≡◌, ℕ, suc, ◌+◌, ◌*◌, ◌<◌, ◌≤◌, List, ◌∷◌, length, sym, refl, ap, subst, inl, inr, mul-le-mul_left, arith}
 use native.Mathlib.Nat.{mul-lt-mul_of_pos_left}
 use Rattle.std.proofs.lemmas.Bool.{cases_order}
 use Rattle.cycle_theory.specs.Nets.{Counts, at, Mem, Nonzero, Within}
@@ -16,7 +16,7 @@ lowered : (p s gy ly gw lw gr lr : ℕ) → 0 < p → p * gy ≡ 1 * gr + s * gw
 lowered p s gy ly gw lw gr lr hp e f h k = omega (arith, mul-lt-mul_of_pos_left h hp, mul-le-mul_left s k)
 
 -- a cycle that a place loses by has a row within it that the place loses by: the walk meets one
-pub losing_row :
+losing_row :
     (n : ℕ) (A : List Flow) (R : List Counts) → Reaches n A R → (g l : List ℕ) (y : Counts) → length y ≡ n → FlowCycle A y → dot g y 0 < dot l y 0 →
     (v : Counts) × (Mem v R) × (Within v y) × (dot g v 0 < dot l v 0)
 losing_row n A R c g l y ly cy h = walk_induction n A R c P none more (suc (steps_in_use n (at y))) y (omega arith) ly cy h
@@ -42,7 +42,7 @@ lose : (p s gx lx gw lw gr lr : ℕ) → 0 < s → p * gx ≡ 1 * gr + s * gw �
 lose p s gx lx gw lw gr lr hs e f h k = omega (arith, ap (λ (m : ℕ). p * m) h, mul-lt-mul_of_pos_left k hs)
 
 -- a balanced cycle that has a row within it by which the place gains has one within it by which the place loses
-pub opposite_row :
+opposite_row :
     (n : ℕ) (A : List Flow) (R : List Counts) → Reaches n A R → (g l : List ℕ) (x : Counts) → length x ≡ n → FlowCycle A x → dot g x 0 ≡ dot l x 0 →
     (w : Counts) → Mem w R → Within w x → dot l w 0 < dot g w 0 → (v : Counts) × (Mem v R) × (Within v x) × (dot g v 0 < dot l v 0)
 opposite_row n A R c g l x lx cx bx w m b h =
@@ -58,9 +58,7 @@ opposite_row n A R c g l x lx cx bx w m b h =
 module _ (n : ℕ) (A : List Flow) (R : List Counts) (i : Cover n A R) (p : Flow) where
   -- what is born is a candidate
   pub born_candidate : (z : Counts) → Born p R z → Candidate n (p ∷ A) z
-  born_candidate z (inl t) =
-      let g : Candidate n A z = i.good z t.0 in
-      record { long = g.long; cycle = (t.1, g.cycle); nonzero = g.nonzero; primitive = g.primitive }
+  born_candidate z (inl t) = search rules
   born_candidate z (inr t) = subst (λ (x : Counts). Candidate n (p ∷ A) x) (sym t.6) (pair_candidate n A p t.0 t.1 (i.good t.0 t.2) (i.good t.1 t.3) t.4 t.5)
 
   -- the row of a pair within x is within x

@@ -1,6 +1,6 @@
 -- Two rows with no common divisor that are proportional are equal (proportional_equal). Of a row that uses all steps of another
 -- as much as possible of the other is taken away, and fewer steps are left in use (lower).
-use Rattle.std.proofs.Common.{◌≡◌, ℕ, zero, suc, ◌+◌, ◌-◌, ◌*◌, ◌<◌, ◌≤◌, ◌⊎◌, length, sym, ap, ◌∙◌, subst, inl, inr, le_of_suc-le-suc, not-suc-le-zero, mul-le-mul_right, eq-zero-or-pos, eq-or-lt_of_le, mul-le-mul_left, arith}
+use Rattle.std.proofs.Common.{◌≡◌, ℕ, zero, suc, ◌+◌, ◌-◌, ◌*◌, ◌<◌, ◌≤◌, ◌⊎◌, length, sym, ap, ◌∙◌, inl, inr, not-suc-le-zero, mul-le-mul_right, eq-zero-or-pos, eq-or-lt_of_le, mul-le-mul_left, arith}
 use native.Mathlib.Nat.{le_of_mul-le-mul_left, mul-sub, eq_of_mul-eq-mul_left}
 use Rattle.cycle_theory.specs.Nets.{Counts, at, Nonzero, Within}
 use Rattle.cycle_theory.specs.Method.{tabulate}
@@ -17,7 +17,7 @@ pub record Ray (e f : ℕ → ℕ) : Type 0 where
   pub right : (j : ℕ) → f j ≡ b * base j
 
 ray_flip : {e f : ℕ → ℕ} → Ray e f → Ray f e
-ray_flip r = record { base = r.base; a = r.b; b = r.a; left = r.right; right = r.left }
+ray_flip r = grind arith
 
 -- if e − f and f are multiples of one row, so are e and f
 ray_up : (e f : ℕ → ℕ) → ((j : ℕ) → f j ≤ e j) → Ray (λ j. e j - f j) f → Ray e f
@@ -37,7 +37,7 @@ ray_less : (p d : ℕ) (e f : ℕ) → 0 < p → p * e ≡ (p + d) * f → p * (
 ray_less p d e f hp h = omega (arith, mul-sub p e f)
 
 -- proportional rows are multiples of one row: Euclid's algorithm, run on the rows themselves
-pub ray : (fuel p s : ℕ) (e f : ℕ → ℕ) → 0 < p → 0 < s → p + s ≤ fuel → ((j : ℕ) → p * e j ≡ s * f j) → Ray e f
+ray : (fuel p s : ℕ) (e f : ℕ → ℕ) → 0 < p → 0 < s → p + s ≤ fuel → ((j : ℕ) → p * e j ≡ s * f j) → Ray e f
 ray zero p s e f hp hs hf h = absurd (omega arith)
 ray (suc k) p s e f hp hs hf h =
     elim (split s p) [
@@ -73,7 +73,7 @@ abbrev pub Least : ℕ → (ℕ → ℕ) → (ℕ → ℕ) → Type 0
 Least n w y = ((j : ℕ) → j < n → w j ≡ 0) ⊎ ((j : ℕ) × (0 < w j) × (j < n) × ((i : ℕ) → i < n → y j * w i ≤ w j * y i))
 
 by_last : (P : ℕ → Type 0) (n : ℕ) → ((i : ℕ) → i < n → P i) → P n → (i : ℕ) → i < suc n → P i
-by_last P n f l i h = elim (eq-or-lt_of_le (le_of_suc-le-suc h)) [ inl e ↦ subst P (sym e) l | inr lt ↦ f i lt ]
+by_last P n f l i h = grind arith
 
 -- of three ratios, the least of the first two and the third
 over : (wj yj wn yn wi yi : ℕ) → 0 < wj → wj * yn < yj * wn → yj * wi ≤ wj * yi → yn * wi ≤ wn * yi

@@ -1,6 +1,6 @@
 -- A step keeps the cover (stepped), and its rows can be had without cleaning (step_members).
 use Rattle.std.proofs.Common.{◌≡◌, ℕ, ◌<◌, true, eqb, ltb, ◌↔◌, List, [], ◌∷◌, map, sym, refl, ap, ◌∙◌, subst, inl, inr, arith}
-use Rattle.std.proofs.lemmas.Bool.{ltb-true, lt-ltb, eqb-true, eq-eqb}
+use Rattle.std.proofs.lemmas.Bool.{ltb-true, eqb-true}
 use Rattle.cycle_theory.specs.Nets.{Counts, Mem, Within, Ascending}
 use Rattle.cycle_theory.specs.Method.{keep, cleaned}
 use Rattle.cycle_theory.specs.Theorems.{NoThird}
@@ -29,10 +29,8 @@ mem_pairs p z (u ∷ us) vs m = elim (mem_append z (map (pair_row p u) vs) (flow
 
 pairs_mem : (p : Flow) (u v : Counts) (us vs : List Counts) → Mem u us → Mem v vs → Mem (pair_row p u v) (flow_pairs p us vs)
 pairs_mem p u v [] vs mu mv = absurd mu
-pairs_mem p u v (w ∷ us) vs (inl e) mv =
-    mem_left (pair_row p u v) (map (pair_row p w) vs) (flow_pairs p us vs)
-    (subst (λ (x : Counts). Mem (pair_row p u v) (map (pair_row p x) vs)) e (map_mem (pair_row p u) v vs mv))
-pairs_mem p u v (w ∷ us) vs (inr mu) mv = mem_right (pair_row p u v) (map (pair_row p w) vs) (flow_pairs p us vs) (pairs_mem p u v us vs mu mv)
+pairs_mem p u v (w ∷ us) vs (inl e) mv = grind (arith, mem_left, map_mem)
+pairs_mem p u v (w ∷ us) vs (inr mu) mv = grind (arith, pairs_mem p u v us vs mu mv, mem_right)
 
 -- the rows before cleaning are those that are born
 module _ (p : Flow) (R : List Counts) where
@@ -45,7 +43,7 @@ module _ (p : Flow) (R : List Counts) where
   losing : List Counts
   losing = keep (λ v. ltb (gains p v) (losses p v)) R
 
-  pub mem_flow_rows : (z : Counts) → Mem z (flow_rows p R) → Born p R z
+  mem_flow_rows : (z : Counts) → Mem z (flow_rows p R) → Born p R z
   unfolding stay gaining losing
   mem_flow_rows z m = elim (mem_append z stay (flow_pairs p gaining losing) m) [
     | inl q ↦
@@ -58,20 +56,13 @@ module _ (p : Flow) (R : List Counts) where
         inr (t.0, t.1, mu.0, mv.0, ltb-true (losses p t.0) (gains p t.0) mu.1, ltb-true (gains p t.1) (losses p t.1) mv.1, t.4)
   ]
 
-  pub flow_rows_mem : (z : Counts) → Born p R z → Mem z (flow_rows p R)
+  flow_rows_mem : (z : Counts) → Born p R z → Mem z (flow_rows p R)
   unfolding stay gaining losing
-  flow_rows_mem z (inl t) =
-      mem_left z stay (flow_pairs p gaining losing)
-      (keep_mem (λ x. eqb (gains p x) (losses p x)) z R t.0 (eq-eqb (gains p z) (losses p z) t.1))
-  flow_rows_mem z (inr t) =
-      mem_right z stay (flow_pairs p gaining losing)
-      (subst (λ (x : Counts). Mem x (flow_pairs p gaining losing)) (sym t.6)
-      (pairs_mem p t.0 t.1 gaining losing
-      (keep_mem (λ u. ltb (losses p u) (gains p u)) t.0 R t.2 (lt-ltb (losses p t.0) (gains p t.0) t.4))
-      (keep_mem (λ v. ltb (gains p v) (losses p v)) t.1 R t.3 (lt-ltb (gains p t.1) (losses p t.1) t.5))))
+  flow_rows_mem z (inl t) = grind (arith, mem_left, keep_mem)
+  flow_rows_mem z (inr t) = grind (arith, mem_right, pairs_mem, keep_mem)
 
 -- before cleaning, the rows reach the cycles of one place more
-pub flow_rows_reach : (n : ℕ) (A : List Flow) (R : List Counts) → Cover n A R → (p : Flow) → Reaches n (p ∷ A) (flow_rows p R)
+flow_rows_reach : (n : ℕ) (A : List Flow) (R : List Counts) → Cover n A R → (p : Flow) → Reaches n (p ∷ A) (flow_rows p R)
 flow_rows_reach n A R i p = record {
   good = λ z m. born_candidate n A R i p z (mem_flow_rows p R z m);
   covers = λ x lx cx nx.

@@ -1,13 +1,8 @@
 -- The steps in use: the test `within` decides Within (within?), and a row that leaves a step out uses fewer (fewer_steps).
 use Rattle.std.proofs.Common.{◌≡◌, ℕ, zero, suc, ◌+◌, ◌<◌, ◌≤◌, true, ◌⊎◌, [], ◌∷◌, refl, subst, inl, inr, le_of_suc-le-suc, not-suc-le-zero, eq-or-lt_of_le, arith}
-use Rattle.std.proofs.lemmas.Bool.{false≢true, cases_Bool, and_parts, and_from, both_ways}
+use Rattle.std.proofs.lemmas.Bool.{cases_Bool, and_parts, and_from, both_ways}
 use Rattle.cycle_theory.specs.Nets.{Counts, Within}
 use Rattle.cycle_theory.specs.Method.{covered, within}
-
-covered_true : (a b : ℕ) → covered a b ≡ true → 0 < a → 0 < b
-covered_true zero b t h = absurd (not-suc-le-zero h)
-covered_true (suc a) zero t h = absurd (false≢true t)
-covered_true (suc a) (suc b) t h = omega arith
 
 true_covered : (a b : ℕ) → (0 < a → 0 < b) → covered a b ≡ true
 true_covered zero b h = refl
@@ -17,9 +12,9 @@ true_covered (suc a) (suc b) h = refl
 -- the test `within` says Within, and is true where it holds
 pub within_true : (x y : Counts) → within x y ≡ true → Within x y
 within_true [] y t j h = absurd (not-suc-le-zero h)
-within_true (a ∷ x) [] t zero h = covered_true a 0 (and_parts (covered a 0) (within x []) t).0 h
+within_true (a ∷ x) [] t zero h = grind arith
 within_true (a ∷ x) [] t (suc j) h = within_true x [] (and_parts (covered a 0) (within x []) t).1 j h
-within_true (a ∷ x) (b ∷ y) t zero h = covered_true a b (and_parts (covered a b) (within x y) t).0 h
+within_true (a ∷ x) (b ∷ y) t zero h = grind arith
 within_true (a ∷ x) (b ∷ y) t (suc j) h = within_true x y (and_parts (covered a b) (within x y) t).1 j h
 
 pub true_within : (x y : Counts) → Within x y → within x y ≡ true

@@ -1,5 +1,5 @@
 -- The theorems, in the words of nets, from those on flows.
-use Rattle.std.proofs.Common.{◌≡◌, ℕ, ◌↔◌, List, [], ◌∷◌, ◌++◌, map, length, sym, ap, ◌∙◌, subst}
+use Rattle.std.proofs.Common.{arith, ◌≡◌, ℕ, ◌↔◌, List, [], ◌∷◌, ◌++◌, map, length, sym, ap, ◌∙◌, subst}
 use Rattle.cycle_theory.specs.Nets.{Counts, Mem, Place, Cycle}
 use Rattle.cycle_theory.specs.Method.{combined, divided, units, step, tss}
 use Rattle.cycle_theory.specs.Theorems.{AllMinimal, Opposed, NoThird, TssMinimal, TssSums, TssSame, ThirdRow, OnePair, PairNew, TssOrder, OneList, OneNumber, SameSteps, UnitsMinimal, StepMinimal, TssReaches, DivisorGreatest}
@@ -35,20 +35,15 @@ same_cycle n A B e x c =
     x c.long (cycle_flows n A x c))
 
 pub tss_same : TssSame
-tss_same n A B = (
-  λ e x. (same_cycle n A B e x, same_cycle n B A (sym e) x),
-  λ h. tss_run n A
-      ∙ run_same n (map flow A) (map flow B) (λ x l. (λ f. cycle_flows n B x ((h x).0 (flows_cycle n A x l f)), λ f. cycle_flows n A x ((h x).1 (flows_cycle n B x l f))))
-      ∙ sym (tss_run n B),
-)
+tss_same n A B = grind (arith, same_cycle, tss_run, run_same, cycle_flows, flows_cycle)
 
 module _ (n : ℕ) (A : List Place) (p : Place) (u v : Counts) (o : Opposed p (tss n A) u v) where
   -- the pair's row in the step of the flows
   to_flow : Mem (divided (combined p u v)) (step p (tss n A)) → Mem (pair_row (flow p) u v) (flow_step (flow p) (tss n A))
-  to_flow m = subst (λ (R : List Counts). Mem (pair_row (flow p) u v) R) (step_flow p (tss n A)) (subst (λ (z : Counts). Mem z (step p (tss n A))) (pair_flow p u v) m)
+  to_flow m = grind (arith, step_flow, pair_flow)
 
   from_flow : Mem (pair_row (flow p) u v) (flow_step (flow p) (tss n A)) → Mem (divided (combined p u v)) (step p (tss n A))
-  from_flow m = subst (λ (z : Counts). Mem z (step p (tss n A))) (sym (pair_flow p u v)) (subst (λ (R : List Counts). Mem (pair_row (flow p) u v) R) (sym (step_flow p (tss n A))) m)
+  from_flow m = grind (arith, pair_flow, step_flow)
 
   pub third : Mem (divided (combined p u v)) (step p (tss n A)) ↔ NoThird (tss n A) u v
   third =
@@ -71,14 +66,10 @@ pair_new n A p u v o m =
     (gains_said p u o.gains) (loses_said p v o.loses) (subst (λ (z : Counts). Mem z (tss n A)) (pair_flow p u v) m)
 
 pub tss_order : TssOrder
-tss_order n A B h = (tss_same n A B).1 (λ x. (
-  λ c. record { long = c.long; stays = λ p m. c.stays p ((h p).1 m) },
-  λ c. record { long = c.long; stays = λ p m. c.stays p ((h p).0 m) },
-))
+tss_order n A B h = grind (arith, tss_same)
 
 pub one_list : OneList
-one_list n A a b h k =
-    determined a b h.ascending k.ascending (λ x. (λ m. (k.exactly x).1 ((h.exactly x).0 m), λ m. (h.exactly x).1 ((k.exactly x).0 m)))
+one_list n A a b h k = grind (arith, determined)
 
 pub one_number : OneNumber
 one_number n A a b h k = sym h.2 ∙ ap (λ (R : List Counts). length R) (one_list n A h.0 k.0 h.1 k.1) ∙ k.2

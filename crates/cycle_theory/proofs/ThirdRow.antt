@@ -1,5 +1,5 @@
 -- The row of a pair is kept just when no third row uses only steps which the pair uses (kept_of_no_third, no_third_of_kept).
-use Rattle.std.proofs.Common.{◌≡◌, ℕ, ◌+◌, ◌*◌, ◌<◌, ◌≤◌, ◌⊎◌, List, sym, refl, ap, ◌∙◌, subst, inl, inr, mul-le-mul_right, eq-zero-or-pos, mul-pos, arith}
+use Rattle.std.proofs.Common.{rules, ◌≡◌, ℕ, ◌+◌, ◌*◌, ◌<◌, ◌≤◌, ◌⊎◌, List, sym, refl, ap, ◌∙◌, subst, inl, inr, mul-le-mul_right, eq-zero-or-pos, mul-pos, arith}
 use Rattle.std.proofs.lemmas.Bool.{cases_order}
 use Rattle.cycle_theory.specs.Nets.{Counts, at, Mem, Within}
 use Rattle.cycle_theory.specs.Theorems.{WithinPair, NoThird}
@@ -24,26 +24,20 @@ cross g r u s v g' w s' z e f h hg hr hu = elim (eq-zero-or-pos w) [
 -- rows that cover the cycles of the places A, one place p more, and a pair of rows, of which p gains by u and loses by v
 module _ (n : ℕ) (A : List Flow) (R : List Counts) (i : Cover n A R) (p : Flow) (u v : Counts) (mu : Mem u R) (mv : Mem v R) (hu : losses p u < gains p u) (hv : gains p v < losses p v) where
   joined : Joined n (shortfall p v) u (excess p u) v (pair_row p u v)
-  joined = pair_joined n A p u v (i.good u mu) (i.good v mv) hu hv
+  joined = grind (arith, pair_joined)
 
   -- the pair's row uses the steps of both, and no other
   pub first_row_within : Within u (pair_row p u v)
-  first_row_within = left_within n (shortfall p v) u (excess p u) v (pair_row p u v) joined (omega arith)
+  first_row_within = search (rules, joined)
 
   pub second_row_within : Within v (pair_row p u v)
-  second_row_within = right_within n (shortfall p v) u (excess p u) v (pair_row p u v) joined (omega arith)
+  second_row_within = search (rules, joined)
 
-  pub pair_within : (w : Counts) → WithinPair w u v → Within w (pair_row p u v)
-  pair_within w h k q = elim (eq-zero-or-pos (at u k)) [ inr a ↦ first_row_within k a | inl e ↦ second_row_within k (omega (arith, h k q)) ]
+  pair_within : (w : Counts) → WithinPair w u v → Within w (pair_row p u v)
+  pair_within w h k q = grind (arith, first_row_within, second_row_within)
 
   pub within_pair : (w : Counts) → Within w (pair_row p u v) → WithinPair w u v
-  within_pair w b k q = elim (eq-zero-or-pos (at u k)) [
-    | inr a ↦ omega arith
-    | inl e ↦ elim (eq-zero-or-pos (at v k)) [
-      | inr a ↦ omega arith
-      | inl f ↦ omega (arith, joined.combines k, mul-pos joined.pos (b k q), ap (λ (m : ℕ). (shortfall p v) * m) e, ap (λ (m : ℕ). (excess p u) * m) f)
-    ]
-  ]
+  within_pair w b k q = search (rules, joined)
 
   -- without a third row, a row within the pair is one of the two
   pub one_of_pair : NoThird R u v → (w : Counts) → Mem w R → WithinPair w u v → (w ≡ u) ⊎ (w ≡ v)
@@ -55,10 +49,7 @@ module _ (n : ℕ) (A : List Flow) (R : List Counts) (i : Cover n A R) (p : Flow
   -- Without a third row, whatever is born within the pair's row is that row: no balanced row is one of the two,
   -- and of another pair both rows stand within this one, so they are the same two.
   pub kept_of_no_third : NoThird R u v → (z : Counts) → Born p R z → Within z (pair_row p u v) → z ≡ pair_row p u v
-  kept_of_no_third alone z (inl t) b = elim (one_of_pair alone z t.0 (within_pair z b)) [
-    | inl e ↦ absurd (omega (arith, hu, t.1, ap (gains p) e, ap (losses p) e))
-    | inr e ↦ absurd (omega (arith, hv, t.1, ap (gains p) e, ap (losses p) e))
-  ]
+  kept_of_no_third alone z (inl t) b = search (rules, one_of_pair, within_pair)
   kept_of_no_third alone z (inr t) b =
       let j : Joined n (shortfall p t.1) t.0 (excess p t.0) t.1 (pair_row p t.0 t.1) = pair_joined n A p t.0 t.1 (i.good t.0 t.2) (i.good t.1 t.3) t.4 t.5 in
       let b' : Within (pair_row p t.0 t.1) (pair_row p u v) = subst (λ (x : Counts). Within x (pair_row p u v)) t.6 b in

@@ -1,5 +1,5 @@
 -- The single steps cover the cycles of no place, and are ascending (units_cover).
-use Rattle.std.proofs.Common.{◌≡◌, ℕ, zero, suc, ◌<◌, ◌≤◌, [], sym, refl, ap, ◌∙◌, subst, inl, inr, le_of_suc-le-suc, not-suc-le-zero, eq-zero-or-pos, eq-or-lt_of_le, arith}
+use Rattle.std.proofs.Common.{◌≡◌, ℕ, zero, suc, ◌<◌, ◌≤◌, [], sym, refl, ap, ◌∙◌, subst, inl, inr, le_of_suc-le-suc, not-suc-le-zero, eq-or-lt_of_le, arith}
 use Rattle.cycle_theory.proofs.Divisors.{one_of_product}
 use Rattle.cycle_theory.specs.Nets.{Counts, at, Mem, Within, Before, Ascending}
 use Rattle.cycle_theory.specs.Method.{delta, unit, units_to, units}
@@ -12,13 +12,12 @@ delta_self (suc i) = delta_self i
 
 delta_pos : (i j : ℕ) → 0 < delta i j → i ≡ j
 delta_pos zero zero h = refl
-delta_pos zero (suc j) h = absurd (not-suc-le-zero h)
-delta_pos (suc i) zero h = absurd (not-suc-le-zero h)
 delta_pos (suc i) (suc j) h = ap suc (delta_pos i j h)
+delta_pos i j h = absurd (omega arith)
 
 -- a unit counts its step once, and no other
 unit_at : (n i : ℕ) → i < n → (j : ℕ) → at (unit n i) j ≡ delta i j
-unit_at n i h = at_tabulate_all n (delta i) (λ j l. elim (eq-zero-or-pos (delta i j)) [ inl e ↦ e | inr p ↦ absurd (omega (arith, delta_pos i j p)) ])
+unit_at n i h = grind (arith, at_tabulate_all, delta_pos)
 
 mem_units : (n k : ℕ) (w : Counts) → k ≤ n → Mem w (units_to n k) → (i : ℕ) × (i < n) × (w ≡ unit n i)
 mem_units n zero w l m = absurd m
@@ -43,10 +42,10 @@ unit_good n i h =
     }
 
 unit_below : (n i : ℕ) (x : Counts) → i < n → 0 < at x i → Within (unit n i) x
-unit_below n i x h p j q = subst (λ (k : ℕ). 0 < at x k) (delta_pos i j (omega (arith, unit_at n i h j))) p
+unit_below n i x h p j q = grind (arith, delta_pos, unit_at)
 
 -- every count list is a cycle of no place, and has the unit of a step that it uses within it
-pub unit_rows_cover : (n : ℕ) → Cover n [] (units_to n n)
+unit_rows_cover : (n : ℕ) → Cover n [] (units_to n n)
 unit_rows_cover n = record {
   good = λ w m.
       let t : (i : ℕ) × (i < n) × (w ≡ unit n i) = mem_units n n w (omega arith) m in
@@ -64,19 +63,16 @@ unit_rows_cover n = record {
 
 -- the unit of a later step comes first
 unit_less : (n k i : ℕ) → i < k → k < n → Before (unit n k) (unit n i)
-unit_less zero k i h l = absurd (not-suc-le-zero l)
-unit_less (suc n) zero i h l = absurd (not-suc-le-zero h)
 unit_less (suc n) (suc k) zero h l = inl (omega arith)
 unit_less (suc n) (suc k) (suc i) h l = inr (refl, unit_less n k i (le_of_suc-le-suc h) (le_of_suc-le-suc l))
+unit_less n k i h l = absurd (omega arith)
 
 mem_units_below : (n k : ℕ) (w : Counts) → Mem w (units_to n k) → (i : ℕ) × (i < k) × (w ≡ unit n i)
 mem_units_below n zero w m = absurd m
 mem_units_below n (suc k) w (inl e) = (k, omega arith, e)
-mem_units_below n (suc k) w (inr m) =
-    let t : (i : ℕ) × (i < k) × (w ≡ unit n i) = mem_units_below n k w m in
-    (t.0, omega arith, t.2)
+mem_units_below n (suc k) w (inr m) = grind (arith, mem_units_below n k w m)
 
-pub unit_rows_ascend : (n k : ℕ) → k ≤ n → Ascending (units_to n k)
+unit_rows_ascend : (n k : ℕ) → k ≤ n → Ascending (units_to n k)
 unit_rows_ascend n zero l = tt
 unit_rows_ascend n (suc k) l = (
   λ y m.

@@ -1,8 +1,8 @@
 -- The walk as a whole: what is certified is a certificate (walk_certifies), more rounds change nothing (walk_ends), and a round leads on (round_leads_on).
-use Rattle.std.proofs.Common.{◌≡◌, ℕ, zero, suc, ◌+◌, ◌-◌, ◌*◌, ◌<◌, ◌≤◌, Bool, true, false, cond, not, eqb, ◌⊎◌, List, [], map, length, get_or, sym, ap, ◌∙◌, subst, inl, inr, not-suc-le-zero, eq-zero-or-pos, mul-pos, arith}
-use lib.ListN.{length-replicate}
+use Rattle.std.proofs.Common.{rules, ◌≡◌, ℕ, zero, suc, ◌+◌, ◌-◌, ◌*◌, ◌<◌, ◌≤◌, Bool, true, false, cond, not, eqb, ◌⊎◌, List, [], map, length, get_or, sym, ap, ◌∙◌, subst, inl, inr, eq-zero-or-pos, mul-pos, arith}
 use Rattle.std.proofs.lemmas.List.{get_or_past, length-map}
-use Rattle.std.proofs.lemmas.Bool.{cases_Bool, cond-true, cond-false, both_ways, eq-eqb, ne_eqb, not-false, not_from_true, not_from_false}
+use Rattle.std.proofs.lemmas.Bool.{cases_Bool, not_from_false}
+use Rattle.std.proofs.lemmas.Grind.{common_steps}
 use Rattle.cycle_theory.specs.Nets.{Counts, at, Within}
 use Rattle.cycle_theory.specs.Method.{within}
 use Rattle.cycle_theory.specs.Theorems.{mixed}
@@ -18,51 +18,36 @@ use Rattle.cycle_theory.proofs.WalkingSums.{mixed_times, mixed_add, mixed_none, 
 
 -- the choice of a row
 no_ratio : (rest : Counts) → (least_ratio [] rest).bottom ≡ 0
-no_ratio rest = elim (least_ratio_is_least [] rest) [ inl t ↦ t.1 | inr l ↦ absurd (not-suc-le-zero l.reached.1) ]
+no_ratio rest = grind (arith, least_ratio_is_least)
 
 module _ (rows : List Counts) (rest : Counts) where
   abbrev passed : Counts → Bool
   passed row = not (within row rest)
 
   -- a row with a ratio stands in the list
-  pub chosen_listed : 0 < (least_ratio (get_or rows (first_within rest rows) []) rest).bottom → first_within rest rows < length rows
-  chosen_listed h = elim (split (length rows) (first_within rest rows)) [
-    | inl past ↦
-        let e : (least_ratio (get_or rows (first_within rest rows) []) rest).bottom ≡ 0 =
-        ap (λ (row : Counts). (least_ratio row rest).bottom) (get_or_past rows (first_within rest rows) [] past) ∙ no_ratio rest in
-        omega (arith, e, h)
-    | inr lt ↦ lt
-  ]
+  chosen_listed : 0 < (least_ratio (get_or rows (first_within rest rows) []) rest).bottom → first_within rest rows < length rows
+  chosen_listed h = grind (arith, get_or_past, no_ratio)
 
   -- it is within the rest
   pub chosen_within : first_within rest rows < length rows → Within (get_or rows (first_within rest rows) []) rest
-  chosen_within h =
-      within_true (get_or rows (first_within rest rows) []) rest
-      (not-false (within (get_or rows (first_within rest rows) []) rest) (fails_there passed [] rows h))
+  chosen_within h = grind (arith, within_true, fails_there)
 
   -- no row before it is
-  pub before_not_within : (i : ℕ) → i < first_within rest rows → within (get_or rows i []) rest ≡ false
-  before_not_within i h = elim (cases_Bool (within (get_or rows i []) rest)) [
-    | inl t ↦ absurd (both_ways (passed (get_or rows i [])) (not_from_true (within (get_or rows i []) rest) t) (passes_before passed [] rows i h))
-    | inr f ↦ f
-  ]
+  before_not_within : (i : ℕ) → i < first_within rest rows → within (get_or rows i []) rest ≡ false
+  before_not_within i h = grind (arith, passes_before)
 
   -- the first row within the rest is the chosen one
-  pub first_is_chosen : (k : ℕ) → k < length rows → ((i : ℕ) → i < k → within (get_or rows i []) rest ≡ false) → within (get_or rows k []) rest ≡ true → first_within rest rows ≡ k
-  first_is_chosen k h before t =
-      first_failing passed [] rows k h (λ i l. not_from_false (within (get_or rows i []) rest) (before i l)) (not_from_true (within (get_or rows k []) rest) t)
+  first_is_chosen : (k : ℕ) → k < length rows → ((i : ℕ) → i < k → within (get_or rows i []) rest ≡ false) → within (get_or rows k []) rest ≡ true → first_within rest rows ≡ k
+  first_is_chosen k h before t = grind (arith, first_failing)
 
-  pub none_is_chosen : ((i : ℕ) → i < length rows → within (get_or rows i []) rest ≡ false) → (least_ratio (get_or rows (first_within rest rows) []) rest).bottom ≡ 0
+  none_is_chosen : ((i : ℕ) → i < length rows → within (get_or rows i []) rest ≡ false) → (least_ratio (get_or rows (first_within rest rows) []) rest).bottom ≡ 0
   none_is_chosen all =
       let e : first_within rest rows ≡ length rows = none_failing passed [] rows (λ i l. not_from_false (within (get_or rows i []) rest) (all i l)) in
       ap (λ (row : Counts). (least_ratio row rest).bottom) (get_or_past rows (first_within rest rows) [] (omega (arith, e))) ∙ no_ratio rest
 
 -- a row that is not within the rest is not within what is left of it
-pub stays_out : (row rest less : Counts) → Within less rest → within row rest ≡ false → within row less ≡ false
-stays_out row rest less sub f = elim (cases_Bool (within row less)) [
-  | inl t ↦ absurd (both_ways (within row rest) f (true_within row rest (λ j h. sub j (within_true row less t j h))))
-  | inr g ↦ g
-]
+stays_out : (row rest less : Counts) → Within less rest → within row rest ≡ false → within row less ≡ false
+stays_out row rest less sub f = grind (arith, true_within, within_true)
 
 -- one round of a walk
 module _ (rows : List Counts) (w : Walk) (h : 0 < (least_ratio (chosen rows w) w.rest).bottom) where
@@ -79,7 +64,7 @@ module _ (rows : List Counts) (w : Walk) (h : 0 < (least_ratio (chosen rows w) w
   round_fewer = uses_fewer (chosen rows w) w.rest inside (least_ratio (chosen rows w) w.rest) lowest_ratio
 
   -- every row up to the one that was taken is out from now on
-  pub round_passes : (i : ℕ) → i < suc (first_within w.rest rows) → within (get_or rows i []) (round rows w).rest ≡ false
+  round_passes : (i : ℕ) → i < suc (first_within w.rest rows) → within (get_or rows i []) (round rows w).rest ≡ false
   round_passes i l = elim (split (first_within w.rest rows) i) [
     | inr lt ↦ stays_out (get_or rows i []) w.rest (round rows w).rest
         (left_within (least_ratio (chosen rows w) w.rest).bottom w.rest (least_ratio (chosen rows w) w.rest).top (chosen rows w))
@@ -90,7 +75,7 @@ module _ (rows : List Counts) (w : Walk) (h : 0 < (least_ratio (chosen rows w) w
         (taken_not_within (chosen rows w) w.rest inside (least_ratio (chosen rows w) w.rest) lowest_ratio)
   ]
 
-  pub round_later : first_within w.rest rows < first_within (round rows w).rest rows
+  round_later : first_within w.rest rows < first_within (round rows w).rest rows
   round_later =
       passes_at_least (λ row. not (within row (round rows w).rest)) [] rows (suc (first_within w.rest rows)) listed
       (λ i l. not_from_false (within (get_or rows i []) (round rows w).rest) (round_passes i l))
@@ -106,12 +91,7 @@ pub record Adds (rows : List Counts) (x : Counts) (w : Walk) : Type 0 where
   pub few : in_use w.coefficients + in_use w.rest ≤ in_use x
 
 begun_adds : (rows : List Counts) (x : Counts) → Adds rows x (begun rows x)
-begun_adds rows x = record {
-  positive = omega arith;
-  one_each = length-replicate {A = ℕ} (length rows) 0;
-  sums = λ j. let r = mixed_none (length rows) rows j in omega (arith, r);
-  few = let r = in_use_none (length rows) in omega (arith, r);
-}
+begun_adds rows x = grind (arith, common_steps, mixed_none, in_use_none)
 
 round_adds : (rows : List Counts) (x : Counts) (w : Walk) → 0 < (least_ratio (chosen rows w) w.rest).bottom → Adds rows x w → Adds rows x (round rows w)
 round_adds rows x w h a =
@@ -139,48 +119,34 @@ round_adds rows x w h a =
 -- the outcome of a walk, by cases
 pub walk_done : (k : ℕ) (rows : List Counts) (w : Walk) → zeros w.rest ≡ true → walk_from k rows w ≡ certified w.multiplier w.coefficients
 unfolding walk_from
-walk_done zero rows w t = cond-true (zeros w.rest) (certified w.multiplier w.coefficients) stuck t
-walk_done (suc k) rows w t =
-    cond-true (zeros w.rest) (certified w.multiplier w.coefficients)
-    (cond (eqb (least_ratio (chosen rows w) w.rest).bottom 0) stuck (cond (fits (round rows w)) (walk_from k rows (round rows w)) too_large)) t
+walk_done zero rows w t = grind arith
+walk_done (suc k) rows w t = grind arith
 
 walk_out : (rows : List Counts) (w : Walk) → zeros w.rest ≡ false → walk_from 0 rows w ≡ stuck
 unfolding walk_from
-walk_out rows w f = cond-false (zeros w.rest) (certified w.multiplier w.coefficients) stuck f
+walk_out rows w f = grind arith
 
 module _ (k : ℕ) (rows : List Counts) (w : Walk) (f : zeros w.rest ≡ false) where
   walk_more : walk_from (suc k) rows w ≡ cond (eqb (least_ratio (chosen rows w) w.rest).bottom 0) stuck (cond (fits (round rows w)) (walk_from k rows (round rows w)) too_large)
   unfolding walk_from
-  walk_more =
-      cond-false (zeros w.rest) (certified w.multiplier w.coefficients)
-      (cond (eqb (least_ratio (chosen rows w) w.rest).bottom 0) stuck (cond (fits (round rows w)) (walk_from k rows (round rows w)) too_large)) f
+  walk_more = grind arith
 
   walk_stuck : (least_ratio (chosen rows w) w.rest).bottom ≡ 0 → walk_from (suc k) rows w ≡ stuck
-  walk_stuck e =
-      walk_more
-      ∙ cond-true (eqb (least_ratio (chosen rows w) w.rest).bottom 0) stuck (cond (fits (round rows w)) (walk_from k rows (round rows w)) too_large)
-      (eq-eqb (least_ratio (chosen rows w) w.rest).bottom 0 e)
+  walk_stuck e = grind (arith, walk_more)
 
   walk_takes : 0 < (least_ratio (chosen rows w) w.rest).bottom → walk_from (suc k) rows w ≡ cond (fits (round rows w)) (walk_from k rows (round rows w)) too_large
-  walk_takes h =
-      walk_more
-      ∙ cond-false (eqb (least_ratio (chosen rows w) w.rest).bottom 0) stuck (cond (fits (round rows w)) (walk_from k rows (round rows w)) too_large)
-      (ne_eqb (least_ratio (chosen rows w) w.rest).bottom 0 (λ e. omega (arith, e, h)))
+  walk_takes h = grind (arith, walk_more)
 
   pub walk_too_large : 0 < (least_ratio (chosen rows w) w.rest).bottom → fits (round rows w) ≡ false → walk_from (suc k) rows w ≡ too_large
-  walk_too_large h g = walk_takes h ∙ cond-false (fits (round rows w)) (walk_from k rows (round rows w)) too_large g
+  walk_too_large h g = grind (arith, walk_takes)
 
   pub walk_one_round : 0 < (least_ratio (chosen rows w) w.rest).bottom → fits (round rows w) ≡ true → walk_from (suc k) rows w ≡ walk_from k rows (round rows w)
-  walk_one_round h t = walk_takes h ∙ cond-true (fits (round rows w)) (walk_from k rows (round rows w)) too_large t
+  walk_one_round h t = grind (arith, walk_takes)
 
 -- as many rounds as the rest uses steps are as good as more
 same_rounds : (k m : ℕ) (rows : List Counts) (w : Walk) → in_use w.rest ≤ k → in_use w.rest ≤ m → walk_from k rows w ≡ walk_from m rows w
-same_rounds zero m rows w hk hm =
-    let z : zeros w.rest ≡ true = zeros_from w.rest (λ j l. in_use_zeros w.rest (omega arith) j) in
-    walk_done zero rows w z ∙ sym (walk_done m rows w z)
-same_rounds (suc k) zero rows w hk hm =
-    let z : zeros w.rest ≡ true = zeros_from w.rest (λ j l. in_use_zeros w.rest (omega arith) j) in
-    walk_done (suc k) rows w z ∙ sym (walk_done zero rows w z)
+same_rounds zero m rows w hk hm = grind (arith, zeros_from, in_use_zeros, walk_done)
+same_rounds (suc k) zero rows w hk hm = grind (arith, zeros_from, in_use_zeros, walk_done)
 same_rounds (suc k) (suc m) rows w hk hm = elim (cases_Bool (zeros w.rest)) [
   | inl t ↦ walk_done (suc k) rows w t ∙ sym (walk_done (suc m) rows w t)
   | inr f ↦ elim (eq-zero-or-pos (least_ratio (chosen rows w) w.rest).bottom) [
@@ -194,43 +160,29 @@ same_rounds (suc k) (suc m) rows w hk hm = elim (cases_Bool (zeros w.rest)) [
 ]
 
 pub walk_ends : WalkEnds
-walk_ends rows x rounds h = same_rounds rounds (in_use x) rows (begun rows x) h (omega arith)
+walk_ends rows x rounds h = grind (arith, same_rounds)
 
 pub walk_zeros : WalkZeros
-walk_zeros rows x z = walk_done (in_use x) rows (begun rows x) (zeros_from x (λ j l. z j))
+walk_zeros rows x z = grind (arith, walk_done, zeros_from)
 
 -- what is certified adds up to the question
 abbrev Certified : List Counts → Counts → ℕ → List ℕ → Type 0
 Certified rows x t cs = Certificate t cs x rows × (in_use cs ≤ in_use x)
 
 done_adds : (k : ℕ) (rows : List Counts) (x : Counts) (w : Walk) (t : ℕ) (cs : List ℕ) → Adds rows x w → zeros w.rest ≡ true → walk_from k rows w ≡ certified t cs → Certified rows x t cs
-done_adds k rows x w t cs a z e =
-    let d : certified w.multiplier w.coefficients ≡ certified t cs = sym (walk_done k rows w z) ∙ e in
-    let et : w.multiplier ≡ t = cc in
-    let ec : w.coefficients ≡ cs = cc in
-    subst (λ (m : ℕ). Certified rows x m cs) et (subst (λ (ds : List ℕ). Certified rows x w.multiplier ds) ec (
-      record {
-        positive = a.positive;
-        one_each = a.one_each;
-        adds_up = λ j. let s = a.sums j in let n = zeros_at w.rest z j in omega (arith, s, n);
-      },
-      (let few = a.few in omega (arith, few)),
-    ))
+done_adds k rows x w t cs a z e = grind (arith, walk_done, zeros_at)
 
 not_certified : (o : Outcome) (t : ℕ) (cs : List ℕ) → (o ≡ stuck) ⊎ (o ≡ too_large) → o ≡ certified t cs → ⊥
 not_certified o t cs (inl s) e = let n : ◌≡◌ {A = ℕ} 0 1 = cc in omega arith
 not_certified o t cs (inr s) e = let n : ◌≡◌ {A = ℕ} 0 1 = cc in omega arith
 
 not_broken : (o : Outcome) → ((t : ℕ) × (cs : List ℕ) × (o ≡ certified t cs)) ⊎ ((o ≡ stuck) ⊎ (o ≡ too_large)) → (place : ℕ) → o ≡ broken place → ⊥
-not_broken o (inl t) place e = let q = t.2 in let n : ◌≡◌ {A = ℕ} 0 1 = cc in omega arith
+not_broken o (inl t) place e = grind arith
 not_broken o (inr (inl s)) place e = let n : ◌≡◌ {A = ℕ} 0 1 = cc in omega arith
 not_broken o (inr (inr s)) place e = let n : ◌≡◌ {A = ℕ} 0 1 = cc in omega arith
 
 certified_adds : (k : ℕ) (rows : List Counts) (x : Counts) (w : Walk) (t : ℕ) (cs : List ℕ) → Adds rows x w → walk_from k rows w ≡ certified t cs → Certified rows x t cs
-certified_adds zero rows x w t cs a e = elim (cases_Bool (zeros w.rest)) [
-  | inl z ↦ done_adds zero rows x w t cs a z e
-  | inr f ↦ absurd (not_certified (walk_from zero rows w) t cs (inl (walk_out rows w f)) e)
-]
+certified_adds zero rows x w t cs a e = grind (arith, done_adds, walk_out)
 certified_adds (suc k) rows x w t cs a e = elim (cases_Bool (zeros w.rest)) [
   | inl z ↦ done_adds (suc k) rows x w t cs a z e
   | inr f ↦ elim (eq-zero-or-pos (least_ratio (chosen rows w) w.rest).bottom) [
@@ -243,14 +195,11 @@ certified_adds (suc k) rows x w t cs a e = elim (cases_Bool (zeros w.rest)) [
 ]
 
 pub walk_certifies : WalkCertifies
-walk_certifies rows x t cs e = certified_adds (in_use x) rows x (begun rows x) t cs (begun_adds rows x) e
+walk_certifies rows x t cs e = grind (arith, certified_adds, begun_adds)
 
 -- a walk looks at no places
 pub never_broken : (k : ℕ) (rows : List Counts) (w : Walk) (place : ℕ) → walk_from k rows w ≡ broken place → ⊥
-never_broken zero rows w place e = elim (cases_Bool (zeros w.rest)) [
-  | inl z ↦ not_broken (walk_from zero rows w) (inl (w.multiplier, w.coefficients, walk_done zero rows w z)) place e
-  | inr f ↦ not_broken (walk_from zero rows w) (inr (inl (walk_out rows w f))) place e
-]
+never_broken zero rows w place e = grind (arith, walk_done, walk_out)
 never_broken (suc k) rows w place e = elim (cases_Bool (zeros w.rest)) [
   | inl z ↦ not_broken (walk_from (suc k) rows w) (inl (w.multiplier, w.coefficients, walk_done (suc k) rows w z)) place e
   | inr f ↦ elim (eq-zero-or-pos (least_ratio (chosen rows w) w.rest).bottom) [
@@ -278,20 +227,20 @@ module _ (rows : List Counts) (w : Walk) (f : zeros w.rest ≡ false) where
       ap (λ (k : ℕ). walk_from k rows w) e ∙ all (in_use w.rest - 1)
 
   pub nothing_within : ((i : ℕ) → i < length rows → within (get_or rows i []) w.rest ≡ false) → walk_on rows w ≡ stuck
-  nothing_within all = rounds_left stuck (λ k. walk_stuck k rows w f (none_is_chosen rows w.rest all))
+  nothing_within all = search (rules, rounds_left, walk_stuck, none_is_chosen)
 
   module _ (k : ℕ) (row : Counts) (here : k < length rows) (is : row ≡ get_or rows k []) (before : (i : ℕ) → i < k → within (get_or rows i []) w.rest ≡ false) (t : within row w.rest ≡ true) where
     first : first_within w.rest rows ≡ k
-    first = first_is_chosen rows w.rest k here before (ap (λ (r : Counts). within r w.rest) (sym is) ∙ t)
+    first = grind (arith, first_is_chosen)
 
     chosen_row : chosen rows w ≡ row
     chosen_row = ap (λ (i : ℕ). get_or rows i []) first ∙ sym is
 
     round_takes : round rows w ≡ taken k row w
-    round_takes = ap (λ (i : ℕ). taken i (chosen rows w) w) first ∙ ap (λ (r : Counts). taken k r w) chosen_row
+    round_takes = grind (arith, first)
 
     ratio_is : (least_ratio (chosen rows w) w.rest).bottom ≡ (least_ratio row w.rest).bottom
-    ratio_is = ap (λ (r : Counts). (least_ratio r w.rest).bottom) chosen_row
+    ratio_is = grind (arith, chosen_row)
 
     pub row_without_steps : (least_ratio row w.rest).bottom ≡ 0 → walk_on rows w ≡ stuck
     row_without_steps e = rounds_left stuck (λ m. walk_stuck m rows w f (ratio_is ∙ e))
@@ -314,6 +263,4 @@ module _ (rows : List Counts) (w : Walk) (f : zeros w.rest ≡ false) where
           ∙ ap (walk_on rows) round_takes
 
       pub round_moves_on : (i : ℕ) → i < suc k → within (get_or rows i []) (taken k row w).rest ≡ false
-      round_moves_on i l =
-          subst (λ (v : Walk). within (get_or rows i []) v.rest ≡ false) round_takes
-          (round_passes rows w has_ratio i (subst (λ (m : ℕ). i < suc m) (sym first) l))
+      round_moves_on i l = grind (arith, round_passes, first)

@@ -1,6 +1,7 @@
 -- Questions on the listed rows of a net: a cycle is never stuck (walk_goes_on), and every outcome says what it should (outcome_right).
-use Rattle.std.proofs.Common.{◌≡◌, ℕ, zero, suc, ◌+◌, ◌-◌, ◌<◌, ◌≤◌, Bool, true, false, not, ltb, ◌⊎◌, List, [], map, length, get_or, ℤ, pos, negsuc, sym, refl, ap, ◌∙◌, subst, inl, inr, arith}
-use Rattle.std.proofs.lemmas.Bool.{cases_Bool, cond-true, cond-false, both_ways, eqb-true, ltb-true, ltb-false, not_from_true}
+use Rattle.std.proofs.Common.{◌≡◌, ℕ, zero, suc, ◌+◌, ◌<◌, ◌≤◌, Bool, false, not, ltb, ◌⊎◌, List, [], map, length, get_or, ℤ, pos, sym, refl, ap, ◌∙◌, subst, inl, inr, arith}
+use Rattle.std.proofs.lemmas.Bool.{cases_Bool, cond-true, cond-false, both_ways, ltb-true, ltb-false, not_from_true}
+use Rattle.std.proofs.lemmas.Grind.{common_steps}
 use Rattle.cycle_theory.specs.Nets.{Counts, Mem, Place, sum, Cycle, Nonzero, Within}
 use Rattle.cycle_theory.specs.Method.{is_zero, within, tss}
 use Rattle.cycle_theory.specs.Flows.{flow}
@@ -18,10 +19,10 @@ use Rattle.cycle_theory.proofs.WalkingRounds.{length_left, left_combines}
 use Rattle.cycle_theory.proofs.Walking.{chosen_within, round_fewer, walk_done, walk_one_round, walk_too_large, walk_certifies, never_broken}
 
 pub ratio_least : RatioLeast
-ratio_least row rest nz = elim (least_ratio_is_least row rest) [ inl t ↦ absurd (omega (arith, t.0 nz.0, nz.1)) | inr l ↦ l ]
+ratio_least row rest nz = grind (arith, least_ratio_is_least)
 
 not_stuck : (o : Outcome) → ((t : ℕ) × (cs : List ℕ) × (o ≡ certified t cs)) ⊎ (o ≡ too_large) → o ≡ stuck → ⊥
-not_stuck o (inl t) s = let q = t.2 in let m : ◌≡◌ {A = ℕ} 0 1 = cc in omega arith
+not_stuck o (inl t) s = grind arith
 not_stuck o (inr q) s = let m : ◌≡◌ {A = ℕ} 0 1 = cc in omega arith
 
 module _ (n : ℕ) (places : List Place) where
@@ -33,10 +34,10 @@ module _ (n : ℕ) (places : List Place) where
 
   module _ (w : Walk) (c : Cycle n places w.rest) (nz : Nonzero w.rest) where
     row_listed : Mem (chosen (tss n places) w) (tss n places)
-    row_listed = mem_get_or (tss n places) (first_within w.rest (tss n places)) [] (listed w.rest c nz)
+    row_listed = grind (arith, mem_get_or, listed)
 
     row_least : LeastRatio (chosen (tss n places) w) w.rest (least_ratio (chosen (tss n places) w) w.rest)
-    row_least = ratio_least (chosen (tss n places) w) w.rest (((tss_minimal n places).exactly (chosen (tss n places) w)).0 row_listed).nonzero
+    row_least = grind (arith, ratio_least, tss_minimal, row_listed)
 
     -- what a round leaves of it is a cycle
     rest_cycle : Cycle n places (round (tss n places) w).rest
@@ -49,9 +50,7 @@ module _ (n : ℕ) (places : List Place) where
         (cycle_flows n places (chosen (tss n places) w) (((tss_minimal n places).exactly (chosen (tss n places) w)).0 row_listed).cycle))
 
   goes_on : (k : ℕ) (w : Walk) → in_use w.rest ≤ k → Cycle n places w.rest → walk_from k (tss n places) w ≡ stuck → ⊥
-  goes_on zero w h c e =
-      not_stuck (walk_from zero (tss n places) w)
-      (inl (w.multiplier, w.coefficients, walk_done zero (tss n places) w (zeros_from w.rest (λ j l. in_use_zeros w.rest (omega arith) j)))) e
+  goes_on zero w h c e = grind (arith, walk_done, zeros_from, in_use_zeros)
   goes_on (suc k) w h c e = elim (zeros? w.rest) [
     | inl z ↦ not_stuck (walk_from (suc k) (tss n places) w) (inl (w.multiplier, w.coefficients, walk_done (suc k) (tss n places) w (zeros_from w.rest (λ j l. z j)))) e
     | inr nz ↦
@@ -66,13 +65,9 @@ module _ (n : ℕ) (places : List Place) where
   ]
 
 pub walk_goes_on : WalkGoesOn
-walk_goes_on n places x c e = goes_on n places (in_use x) (begun (tss n places) x) (omega arith) c e
+walk_goes_on n places x c e = grind (arith, goes_on)
 
--- sums
-zero_sum : (z : ℤ) → is_zero z ≡ true → z ≡ pos 0
-zero_sum (pos m) t = ap pos (eqb-true m 0 t)
-zero_sum (negsuc m) t = absurd (both_ways false refl t)
-
+-- a sum that fails the test for 0 is not 0
 other_sum : (z : ℤ) → is_zero z ≡ false → z ≡ pos 0 → ⊥
 other_sum z f e = both_ways (is_zero z) f (ap is_zero e)
 
@@ -82,14 +77,7 @@ module _ (places : List Place) (x : Counts) where
 
   -- a place that breaks
   first_broken : unbroken places x < length places → FirstBroken places x (unbroken places x + 1)
-  first_broken h =
-      let back : unbroken places x + 1 - 1 ≡ unbroken places x = omega arith in
-      record {
-        from = omega arith;
-        to = omega (arith, h);
-        breaks = λ e. other_sum (sum (get_or places (unbroken places x) []) x) (fails_there holds [] places h) (ap (λ (i : ℕ). sum (get_or places i []) x) (sym back) ∙ e);
-        holds_before = λ i l. zero_sum (sum (get_or places i []) x) (passes_before holds [] places i (omega (arith, l)));
-      }
+  first_broken h = grind (arith, common_steps, fails_there, passes_before)
 
   no_cycle : (n : ℕ) → unbroken places x < length places → Cycle n places x → ⊥
   no_cycle n h c =
@@ -98,10 +86,7 @@ module _ (places : List Place) (x : Counts) where
 
   -- all places hold
   all_hold : length places ≤ unbroken places x → (p : Place) → Mem p places → sum p x ≡ pos 0
-  all_hold h p m = elim (cases_Bool (holds p)) [
-    | inl t ↦ zero_sum (sum p x) t
-    | inr f ↦ let lt = stops_before holds [] places p m f in absurd (omega (arith, lt, h))
-  ]
+  all_hold h p m = grind (arith, stops_before)
 
 pub outcome_right : OutcomeRight
 outcome_right n places x long = elim (cases_Bool (ltb (unbroken places x) (length places))) [

@@ -1,28 +1,26 @@
 -- Sums of coefficient × row, when the coefficients are multiplied and one is raised.
-use Rattle.std.proofs.Common.{◌≡◌, ℕ, zero, suc, ◌+◌, ◌*◌, ◌<◌, ◌≤◌, List, [], ◌∷◌, map, length, get_or, replicate, refl, ap, inl, inr, le_of_suc-le-suc, not-suc-le-zero, eq-zero-or-pos, arith}
+use Rattle.std.proofs.Common.{◌≡◌, ℕ, zero, suc, ◌+◌, ◌*◌, ◌<◌, ◌≤◌, List, [], ◌∷◌, map, length, get_or, replicate, refl, ap, le_of_suc-le-suc, not-suc-le-zero, arith}
 use Rattle.std.proofs.lemmas.List.{length-map, get_or-map}
 use Rattle.cycle_theory.specs.Nets.{Counts, at}
 use Rattle.cycle_theory.specs.Theorems.{mixed}
 use Rattle.cycle_theory.specs.Walk.{add_at, in_use}
-use Rattle.cycle_theory.proofs.Rows.{split, at_past}
+use Rattle.cycle_theory.proofs.Rows.{at_past}
 use Rattle.cycle_theory.proofs.WalkingTests.{in_use_le}
 
 pub mixed_times : (p : ℕ) (cs : List ℕ) (rows : List Counts) (j : ℕ) → mixed (map (λ c. p * c) cs) rows j ≡ p * mixed cs rows j
 mixed_times p [] rows j = omega arith
 mixed_times p (c ∷ cs) [] j = omega arith
-mixed_times p (c ∷ cs) (row ∷ rows) j = let r = mixed_times p cs rows j in omega (arith, r)
+mixed_times p (c ∷ cs) (row ∷ rows) j = omega (arith, mixed_times p cs rows j)
 
 pub mixed_add : (k s : ℕ) (cs : List ℕ) (rows : List Counts) (j : ℕ) → length cs ≡ length rows → k < length rows → mixed (add_at k s cs) rows j ≡ mixed cs rows j + s * at (get_or rows k []) j
-mixed_add k s [] [] j l h = absurd (not-suc-le-zero h)
-mixed_add k s [] (row ∷ rows) j l h = absurd (omega arith)
-mixed_add k s (c ∷ cs) [] j l h = absurd (omega arith)
 mixed_add zero s (c ∷ cs) (row ∷ rows) j l h = omega arith
-mixed_add (suc k) s (c ∷ cs) (row ∷ rows) j l h = let r = mixed_add k s cs rows j (omega arith) (le_of_suc-le-suc h) in omega (arith, r)
+mixed_add (suc k) s (c ∷ cs) (row ∷ rows) j l h = omega (arith, mixed_add k s cs rows j (omega arith) (le_of_suc-le-suc h))
+mixed_add k s cs rows j l h = absurd (omega arith)
 
 pub mixed_none : (m : ℕ) (rows : List Counts) (j : ℕ) → mixed (replicate m 0) rows j ≡ 0
 mixed_none zero rows j = refl
 mixed_none (suc m) [] j = refl
-mixed_none (suc m) (row ∷ rows) j = let r = mixed_none m rows j in omega (arith, r)
+mixed_none (suc m) (row ∷ rows) j = omega (arith, mixed_none m rows j)
 
 pub length_add_at : (k s : ℕ) (cs : List ℕ) → length (add_at k s cs) ≡ length cs
 length_add_at k s [] = refl
@@ -42,29 +40,17 @@ at_add_at_other (suc k) s (c ∷ cs) zero ne = refl
 at_add_at_other (suc k) s (c ∷ cs) (suc i) ne = at_add_at_other k s cs i (λ e. ne (ap suc e))
 
 pub at_times : (p : ℕ) (cs : List ℕ) (k : ℕ) → at (map (λ c. p * c) cs) k ≡ p * at cs k
-at_times p cs k = elim (split (length cs) k) [
-  | inl h ↦
-      let n : length (map (λ c. p * c) cs) ≤ k = let e = length-map cs (λ c. p * c) in omega (arith, e) in
-      omega (arith, at_past (map (λ c. p * c) cs) k n, ap (λ (m : ℕ). p * m) (at_past cs k h))
-  | inr h ↦ get_or-map (λ c. p * c) cs k 0 0 h
-]
+at_times p cs k = grind (arith, length-map, at_past, get_or-map)
 
 -- how many coefficients are not 0
 pub in_use_times : (p : ℕ) (cs : List ℕ) → in_use (map (λ c. p * c) cs) ≤ in_use cs
-in_use_times p cs = in_use_le (map (λ c. p * c) cs) cs (length-map cs (λ c. p * c)) (λ j h. elim (eq-zero-or-pos (at cs j)) [
-  | inl e ↦ omega (arith, h, at_times p cs j, ap (λ (m : ℕ). p * m) e)
-  | inr q ↦ q
-])
-
-in_use_head : (c : ℕ) (cs : List ℕ) → (in_use (c ∷ cs) ≤ suc (in_use cs)) × (in_use cs ≤ in_use (c ∷ cs))
-in_use_head zero cs = (omega arith, omega arith)
-in_use_head (suc c) cs = (omega arith, omega arith)
+in_use_times p cs = grind (arith, in_use_le, length-map, at_times)
 
 pub in_use_add_at : (k s : ℕ) (cs : List ℕ) → in_use (add_at k s cs) ≤ suc (in_use cs)
 in_use_add_at k s [] = omega arith
-in_use_add_at zero s (c ∷ cs) = let a = (in_use_head (c + s) cs).0 in let b = (in_use_head c cs).1 in omega (arith, a, b)
+in_use_add_at zero s (c ∷ cs) = grind arith
 in_use_add_at (suc k) s (zero ∷ cs) = in_use_add_at k s cs
-in_use_add_at (suc k) s (suc c ∷ cs) = let r = in_use_add_at k s cs in omega (arith, r)
+in_use_add_at (suc k) s (suc c ∷ cs) = omega (arith, in_use_add_at k s cs)
 
 pub in_use_none : (m : ℕ) → in_use (replicate m 0) ≡ 0
 in_use_none zero = refl

@@ -1,10 +1,10 @@
 -- A question's outcome depends on the counts alone, not on zeros behind them: `same_walk` and `same_unbroken`.
-use Rattle.std.proofs.Common.{◌≡◌, ℕ, zero, suc, ◌+◌, ◌-◌, ◌*◌, Bool, true, false, cond, not, ◌&&◌, eqb, ltb, leb, List, [], ◌∷◌, map, length, get_or, replicate, ℤ, pos, ◌+ℤ◌, ◌*ℤ◌, sym, refl, ap, ◌∙◌, arith}
+use Rattle.std.proofs.Common.{◌≡◌, ℕ, zero, suc, ◌+◌, ◌*◌, Bool, false, cond, eqb, ltb, List, [], ◌∷◌, length, get_or, sym, refl, ap, ◌∙◌, arith}
 use Rattle.std.proofs.lemmas.Bool.{cond-false, le-ltb}
 use Rattle.cycle_theory.specs.Nets.{Counts, at, Place, sum}
-use Rattle.cycle_theory.specs.Method.{is_zero, within}
+use Rattle.cycle_theory.specs.Method.{within}
 use Rattle.cycle_theory.specs.Flows.{sum_from}
-use Rattle.cycle_theory.specs.Walk.{Ratio, lesser, least_to, lowest, least_ratio, add_at, first_within, in_use, zeros, small, Walk, begun, chosen, round, fits, Outcome, certified, too_large, stuck, walk_from, walk, unbroken}
+use Rattle.cycle_theory.specs.Walk.{Ratio, least_to, lowest, least_ratio, first_within, in_use, zeros, small, Walk, chosen, round, fits, Outcome, certified, too_large, stuck, walk_from, walk, unbroken}
 use Rattle.cycle_theory.proofs.Rows.{at_past}
 use Rattle.cycle_theory.proofs.Supports.{within_true, true_within}
 use Rattle.cycle_theory.proofs.Integers.{sum_from_start}
@@ -18,59 +18,39 @@ Same u v = (j : ℕ) → at u j ≡ at v j
 -- row by row
 abbrev pub SameRows : List Counts → List Counts → Type 0
 SameRows [] [] = Unit {0}
-SameRows [] (v ∷ vs) = ⊥
-SameRows (u ∷ us) [] = ⊥
 SameRows (u ∷ us) (v ∷ vs) = Same u v × SameRows us vs
-
-equal_tests : (a b : Bool) → (a ≡ true → b ≡ true) → (b ≡ true → a ≡ true) → a ≡ b
-equal_tests true b f g = sym (f refl)
-equal_tests false true f g = g refl
-equal_tests false false f g = refl
+SameRows us vs = ⊥
 
 same_zeros : (u v : Counts) → Same u v → zeros u ≡ zeros v
-same_zeros u v e = equal_tests (zeros u) (zeros v)
-    (λ t. zeros_from v (λ j l. sym (e j) ∙ zeros_at u t j))
-    (λ t. zeros_from u (λ j l. e j ∙ zeros_at v t j))
+same_zeros u v e = grind (arith, zeros_from, zeros_at)
 
 same_small : (u v : Counts) → Same u v → small u ≡ small v
-same_small u v e = equal_tests (small u) (small v)
-    (λ t. small_from v (λ j l. let q = e j in let s = small_at u t j in omega (arith, q, s)))
-    (λ t. small_from u (λ j l. let q = e j in let s = small_at v t j in omega (arith, q, s)))
+same_small u v e = grind (arith, small_from, small_at)
 
 same_within : (u u' v v' : Counts) → Same u u' → Same v v' → within u v ≡ within u' v'
-same_within u u' v v' e f = equal_tests (within u v) (within u' v')
-    (λ t. true_within u' v' (λ j h. let q = within_true u v t j (let r = e j in omega (arith, r, h)) in let r = f j in omega (arith, q, r)))
-    (λ t. true_within u v (λ j h. let q = within_true u' v' t j (let r = e j in omega (arith, r, h)) in let r = f j in omega (arith, q, r)))
+same_within u u' v v' e f = grind (arith, true_within, within_true)
 
 same_first : (rows rows' : List Counts) (v v' : Counts) → SameRows rows rows' → Same v v' → first_within v rows ≡ first_within v' rows'
 same_first [] [] v v' s f = refl
-same_first [] (u ∷ us) v v' s f = absurd s
-same_first (u ∷ us) [] v v' s f = absurd s
-same_first (u ∷ us) (u' ∷ us') v v' s f =
-    ap (λ (b : Bool). cond (not b) (1 + first_within v us) 0) (same_within u u' v v' s.0 f)
-    ∙ ap (λ (m : ℕ). cond (not (within u' v')) (1 + m) 0) (same_first us us' v v' s.1 f)
+same_first (u ∷ us) (u' ∷ us') v v' s f = grind (arith, same_first us us' v v' s.1 f, same_within)
+same_first rows rows' v v' s f = absurd s
 
 same_row : (rows rows' : List Counts) (k : ℕ) → SameRows rows rows' → Same (get_or rows k []) (get_or rows' k [])
 same_row [] [] k s j = refl
-same_row [] (u ∷ us) k s j = absurd s
-same_row (u ∷ us) [] k s j = absurd s
 same_row (u ∷ us) (u' ∷ us') zero s j = s.0 j
 same_row (u ∷ us) (u' ∷ us') (suc k) s j = same_row us us' k s.1 j
+same_row rows rows' k s j = absurd s
 
-pub same_length : (rows rows' : List Counts) → SameRows rows rows' → length rows ≡ length rows'
+same_length : (rows rows' : List Counts) → SameRows rows rows' → length rows ≡ length rows'
 same_length [] [] s = refl
-same_length [] (u ∷ us) s = absurd s
-same_length (u ∷ us) [] s = absurd s
 same_length (u ∷ us) (u' ∷ us') s = ap suc (same_length us us' s.1)
+same_length rows rows' s = absurd s
 
 -- the least ratio
 same_least : (n : ℕ) (row row' rest rest' : Counts) → Same row row' → Same rest rest' → least_to n row rest ≡ least_to n row' rest'
 unfolding least_to
 same_least zero row row' rest rest' e f = refl
-same_least (suc n) row row' rest rest' e f =
-    ap (λ (b : Ratio). lesser b (at rest n) (at row n)) (same_least n row row' rest rest' e f)
-    ∙ ap (λ (r : ℕ). lesser (least_to n row' rest') r (at row n)) (f n)
-    ∙ ap (λ (c : ℕ). lesser (least_to n row' rest') (at rest' n) c) (e n)
+same_least (suc n) row row' rest rest' e f = grind (arith, same_least n row row' rest rest' e f)
 
 least_past : (m : ℕ) (row rest : Counts) → least_to (m + length row) row rest ≡ least_to (length row) row rest
 unfolding least_to
@@ -104,47 +84,23 @@ module _ (rows rows' : List Counts) (s : SameRows rows rows') (w v : Walk) (e : 
   choice = same_first rows rows' w.rest v.rest s e.rest
 
   row_same : Same (chosen rows w) (chosen rows' v)
-  row_same j = ap (λ (k : ℕ). at (get_or rows k []) j) choice ∙ same_row rows rows' (first_within v.rest rows') s j
+  row_same j = grind (arith, choice, same_row)
 
   ratio_same : least_ratio (chosen rows w) w.rest ≡ least_ratio (chosen rows' v) v.rest
-  ratio_same = same_ratio (chosen rows w) (chosen rows' v) w.rest v.rest row_same e.rest
+  ratio_same = grind (arith, same_ratio, row_same)
 
   round_same : SameWalk (round rows w) (round rows' v)
-  round_same =
-      let r : Ratio = least_ratio (chosen rows w) w.rest in
-      let q : Ratio = least_ratio (chosen rows' v) v.rest in
-      let b : r.bottom ≡ q.bottom = ap (λ (x : Ratio). x.bottom) ratio_same in
-      let t : r.top ≡ q.top = ap (λ (x : Ratio). x.top) ratio_same in
-      record {
-        rest = λ j.
-            at_left r.bottom w.rest r.top (chosen rows w) j
-            ∙ ap (λ (p : ℕ). p * at w.rest j - r.top * at (chosen rows w) j) b
-            ∙ ap (λ (x : ℕ). q.bottom * x - r.top * at (chosen rows w) j) (e.rest j)
-            ∙ ap (λ (p : ℕ). q.bottom * at v.rest j - p * at (chosen rows w) j) t
-            ∙ ap (λ (x : ℕ). q.bottom * at v.rest j - q.top * x) (row_same j)
-            ∙ sym (at_left q.bottom v.rest q.top (chosen rows' v) j);
-        multiplier = ap (λ (p : ℕ). p * w.multiplier) b ∙ ap (λ (m : ℕ). q.bottom * m) e.multiplier;
-        coefficients =
-            ap (λ (k : ℕ). add_at k r.top (map (λ c. r.bottom * c) w.coefficients)) choice
-            ∙ ap (λ (x : ℕ). add_at (first_within v.rest rows') x (map (λ c. r.bottom * c) w.coefficients)) t
-            ∙ ap (λ (p : ℕ). add_at (first_within v.rest rows') q.top (map (λ c. p * c) w.coefficients)) b
-            ∙ ap (λ (cs : List ℕ). add_at (first_within v.rest rows') q.top (map (λ c. q.bottom * c) cs)) e.coefficients;
-      }
+  round_same = grind (arith, ratio_same, at_left, row_same, choice)
 
 same_fits : (w v : Walk) → SameWalk w v → fits w ≡ fits v
-same_fits w v e =
-    ap (λ (m : ℕ). leb m 2147483647 && (small w.coefficients && small w.rest)) e.multiplier
-    ∙ ap (λ (cs : List ℕ). leb v.multiplier 2147483647 && (small cs && small w.rest)) e.coefficients
-    ∙ ap (λ (b : Bool). leb v.multiplier 2147483647 && (small v.coefficients && b)) (same_small w.rest v.rest e.rest)
+same_fits w v e = grind (arith, same_small)
 
 same_certified : (w v : Walk) → SameWalk w v → certified w.multiplier w.coefficients ≡ certified v.multiplier v.coefficients
-same_certified w v e = ap (λ (m : ℕ). certified m w.coefficients) e.multiplier ∙ ap (λ (cs : List ℕ). certified v.multiplier cs) e.coefficients
+same_certified w v e = grind arith
 
 same_from : (k : ℕ) (rows rows' : List Counts) → SameRows rows rows' → (w v : Walk) → SameWalk w v → walk_from k rows w ≡ walk_from k rows' v
 unfolding walk_from
-same_from zero rows rows' s w v e =
-    ap (λ (b : Bool). cond b (certified w.multiplier w.coefficients) stuck) (same_zeros w.rest v.rest e.rest)
-    ∙ ap (λ (o : Outcome). cond (zeros v.rest) o stuck) (same_certified w v e)
+same_from zero rows rows' s w v e = grind (arith, same_zeros)
 same_from (suc k) rows rows' s w v e =
     let r : SameWalk (round rows w) (round rows' v) = round_same rows rows' s w v e in
     let on : Outcome = cond (fits (round rows w)) (walk_from k rows (round rows w)) too_large in
@@ -158,20 +114,16 @@ same_from (suc k) rows rows' s w v e =
     ∙ ap (λ (o : Outcome). cond (zeros v.rest) (certified v.multiplier v.coefficients) (cond (eqb (least_ratio (chosen rows' v) v.rest).bottom 0) stuck o)) go
 
 pub same_walk : (rows rows' : List Counts) → SameRows rows rows' → (x x' : Counts) → Same x x' → in_use x ≡ in_use x' → walk rows x ≡ walk rows' x'
-same_walk rows rows' s x x' e u =
-    ap (λ (k : ℕ). walk_from k rows (begun rows x)) u
-    ∙ same_from (in_use x') rows rows' s (begun rows x) (begun rows' x') (record { rest = e; multiplier = refl; coefficients = ap (λ (m : ℕ). replicate m 0) (same_length rows rows' s) })
+same_walk rows rows' s x x' e u = grind (arith, same_from, same_length)
 
 -- sums on places
 same_sum_from : (p : Place) (x x' : Counts) (i : ℕ) → Same x x' → sum_from p x i ≡ sum_from p x' i
 same_sum_from [] x x' i e = refl
-same_sum_from (f ∷ p) x x' i e =
-    ap (λ (c : ℕ). (f *ℤ pos c) +ℤ sum_from p x (suc i)) (e i) ∙ ap (λ (z : ℤ). (f *ℤ pos (at x' i)) +ℤ z) (same_sum_from p x x' (suc i) e)
+same_sum_from (f ∷ p) x x' i e = grind (arith, same_sum_from p x x' (suc i) e)
 
-pub same_sum : (p : Place) (x x' : Counts) → Same x x' → sum p x ≡ sum p x'
+same_sum : (p : Place) (x x' : Counts) → Same x x' → sum p x ≡ sum p x'
 same_sum p x x' e = sym (sum_from_start p x) ∙ same_sum_from p x x' 0 e ∙ sum_from_start p x'
 
 pub same_unbroken : (places : List Place) (x x' : Counts) → Same x x' → unbroken places x ≡ unbroken places x'
 same_unbroken [] x x' e = refl
-same_unbroken (p ∷ places) x x' e =
-    ap (λ (z : ℤ). cond (is_zero z) (1 + unbroken places x) 0) (same_sum p x x' e) ∙ ap (λ (m : ℕ). cond (is_zero (sum p x')) (1 + m) 0) (same_unbroken places x x' e)
+same_unbroken (p ∷ places) x x' e = grind (arith, same_sum)

@@ -1,51 +1,44 @@
-// The theorems on questions, each asked for by the contract of a small function.
+// The theorems on questions, each asked for by the contract of a small function, with the name of its proof beside it.
 ghost use Rattle.cycle_theory.specs.Questions.{RatioLeast, WalkCertifies, WalkEnds, WalkOnce, WalkGoesOn, WalkZeros, OutcomeRight};
 
 // The ratio of a round is the least one, in lowest terms.
-pub fn ratio_least() -> u8
+#[tactic(auto, using(crate::proofs::WalkingNets::ratio_least))]
+pub fn ratio_least()
     ensures { RatioLeast }
-{
-    0
-}
+{}
 
 // A certified outcome is a certificate, with at most as many coefficients other than 0 as the question uses steps.
-pub fn walk_certifies() -> u8
+#[tactic(auto, using(crate::proofs::Walking::walk_certifies))]
+pub fn walk_certifies()
     ensures { WalkCertifies }
-{
-    0
-}
+{}
 
 // The walk ends within as many rounds as the question uses steps.
-pub fn walk_ends() -> u8
+#[tactic(auto, using(crate::proofs::Walking::walk_ends))]
+pub fn walk_ends()
     ensures { WalkEnds }
-{
-    0
-}
+{}
 
 // Each row is taken at most once.
-pub fn walk_once() -> u8
+#[tactic(auto, using(crate::proofs::Walking::walk_once))]
+pub fn walk_once()
     ensures { WalkOnce }
-{
-    0
-}
+{}
 
 // Until nothing is left of a cycle, some listed row can be taken.
-pub fn walk_goes_on() -> u8
+#[tactic(auto, using(crate::proofs::WalkingNets::walk_goes_on))]
+pub fn walk_goes_on()
     ensures { WalkGoesOn }
-{
-    0
-}
+{}
 
 // The question of zeros is certified with the multiplier 1 and no row.
-pub fn walk_zeros() -> u8
+#[tactic(auto, using(crate::proofs::Walking::walk_zeros))]
+pub fn walk_zeros()
     ensures { WalkZeros }
-{
-    0
-}
+{}
 
 // A question is certified, broken or too large: certified or too large exactly where it is a cycle.
-pub fn outcome_right() -> u8
+#[tactic(auto, using(crate::proofs::WalkingNets::outcome_right))]
+pub fn outcome_right()
     ensures { OutcomeRight }
-{
-    0
-}
+{}

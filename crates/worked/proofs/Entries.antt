@@ -1,5 +1,7 @@
 -- The rule at each entry of a table, from one test over the whole of it, which the checker computes (all_right).
-use Rattle.std.proofs.Common.{◌≡◌, ℕ, suc, ◌<◌, Bool, true, false, ◌&&◌, ◌||◌, eqb, ltb, List, [], ◌∷◌, ◌++◌, refl, ap, subst, inl, inr}
+use Rattle.std.proofs.Common.{◌≡◌, ℕ, suc, ◌<◌, Bool, true, false, ◌&&◌, ◌||◌, eqb, ltb, List, [], ◌∷◌, ◌++◌, get_or, refl, ap, subst, inl, inr}
+use Rattle.std.specs.List.{list_all}
+use Rattle.std.proofs.lemmas.List.Sums.{AllPass-from_list_all}
 use Rattle.std.proofs.lemmas.Bool.{and_parts, or_cases, eqb-true, ltb-true, false≢true}
 use Rattle.cycle_theory.specs.Nets.{Counts, at, Place}
 use Rattle.cycle_theory.specs.Walk.{Outcome, certified, broken, too_large, stuck, outcome}
@@ -14,55 +16,31 @@ use Rattle.worked.specs.Table.{places_of, rows_of, too_large_of, outcome_of, Has
 
 abbrev pub same_rows : List Counts → List Counts → Bool
 same_rows [] [] = true
-same_rows [] (y ∷ m) = false
-same_rows (x ∷ l) [] = false
 same_rows (x ∷ l) (y ∷ m) = same x y && same_rows l m
+same_rows l m = false
 
 same_rows_true : (l m : List Counts) → same_rows l m ≡ true → l ≡ m
 same_rows_true [] [] t = refl
-same_rows_true [] (y ∷ m) t = absurd (false≢true t)
-same_rows_true (x ∷ l) [] t = absurd (false≢true t)
 same_rows_true (x ∷ l) (y ∷ m) t =
     let e : x ≡ y = same_true x y (and_parts (same x y) (same_rows l m) t).0 in
     let f : l ≡ m = same_rows_true l m (and_parts (same x y) (same_rows l m) t).1 in cc
+same_rows_true l m t = absurd (false≢true t)
 
 abbrev pub same_outcome : Outcome → Outcome → Bool
 same_outcome (certified t cs) (certified u ds) = eqb t u && same cs ds
-same_outcome (certified t cs) (broken k) = false
-same_outcome (certified t cs) too_large = false
-same_outcome (certified t cs) stuck = false
-same_outcome (broken k) (certified u ds) = false
 same_outcome (broken k) (broken m) = eqb k m
-same_outcome (broken k) too_large = false
-same_outcome (broken k) stuck = false
-same_outcome too_large (certified u ds) = false
-same_outcome too_large (broken m) = false
 same_outcome too_large too_large = true
-same_outcome too_large stuck = false
-same_outcome stuck (certified u ds) = false
-same_outcome stuck (broken m) = false
-same_outcome stuck too_large = false
 same_outcome stuck stuck = true
+same_outcome a b = false
 
 same_outcome_true : (a b : Outcome) → same_outcome a b ≡ true → a ≡ b
 same_outcome_true (certified t cs) (certified u ds) h =
     let e : t ≡ u = eqb-true t u (and_parts (eqb t u) (same cs ds) h).0 in
     let f : cs ≡ ds = same_true cs ds (and_parts (eqb t u) (same cs ds) h).1 in cc
-same_outcome_true (certified t cs) (broken k) h = absurd (false≢true h)
-same_outcome_true (certified t cs) too_large h = absurd (false≢true h)
-same_outcome_true (certified t cs) stuck h = absurd (false≢true h)
-same_outcome_true (broken k) (certified u ds) h = absurd (false≢true h)
 same_outcome_true (broken k) (broken m) h = ap broken (eqb-true k m h)
-same_outcome_true (broken k) too_large h = absurd (false≢true h)
-same_outcome_true (broken k) stuck h = absurd (false≢true h)
-same_outcome_true too_large (certified u ds) h = absurd (false≢true h)
-same_outcome_true too_large (broken m) h = absurd (false≢true h)
 same_outcome_true too_large too_large h = refl
-same_outcome_true too_large stuck h = absurd (false≢true h)
-same_outcome_true stuck (certified u ds) h = absurd (false≢true h)
-same_outcome_true stuck (broken m) h = absurd (false≢true h)
-same_outcome_true stuck too_large h = absurd (false≢true h)
 same_outcome_true stuck stuck h = refl
+same_outcome_true a b h = absurd (false≢true h)
 
 -- some count is above the limit
 abbrev pub large_count : Counts → Bool
@@ -117,5 +95,5 @@ passed net t =
       large = λ p m. large_row_true (tss net.steps (places_of net ++ p ∷ [])) (every_mem (leaves_large net) (too_large_of net) b.1 p m);
     }
 
-pub all_right : (table : List WorkedNet) → every passes table ≡ true → AllRight table
-all_right table t = record { each = λ net m. passed net (every_mem passes table t net m) }
+pub all_right : (table : List WorkedNet) → list_all passes table ≡ true → AllRight table
+all_right table t = record { each = λ k d h. passed (get_or table k d) (AllPass-from_list_all passes table t k d h) }

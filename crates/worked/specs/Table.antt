@@ -7,10 +7,11 @@
 --                    that is told, and each place too large would leave a row with a count above 1,048,575
 -- AllRight table     every net of the table is right
 use Rattle.std.specs.Prelude.{◌≡◌, ℕ, ◌<◌, List, [], ◌∷◌, ◌++◌, map, Some, None, Option}
+use Rattle.std.specs.List.{All}
 use Rattle.cycle_theory.specs.Nets.{Counts, at, Mem, Place}
 use Rattle.cycle_theory.specs.Method.{tss}
 use Rattle.cycle_theory.specs.Theorems.{AllMinimal}
-use Rattle.cycle_theory.specs.Walk.{Outcome, certified, too_large, outcome}
+use Rattle.cycle_theory.specs.Walk.{Outcome, certified, too_large as number_too_large, outcome}
 use Rattle.worked.specs.declared.net.WorkedNet.{WorkedNet}
 use Rattle.worked.specs.declared.net.WorkedQuestion.{WorkedQuestion}
 use Rattle.worked.specs.declared.net.WorkedCertificate.{WorkedCertificate}
@@ -26,7 +27,7 @@ too_large_of net = map (λ x. x.now) net.too_large.now
 
 abbrev pub told : Option WorkedCertificate → Outcome
 told (Some certificate) = certified certificate.multiplier certificate.coefficients.now
-told None = too_large
+told None = number_too_large
 
 abbrev pub outcome_of : WorkedQuestion → Outcome
 outcome_of q = told q.certificate
@@ -41,4 +42,4 @@ pub record RightNet (net : WorkedNet) : Type 0 where
   pub large : (p : Place) → Mem p (too_large_of net) → HasLarge (tss net.steps (places_of net ++ p ∷ []))
 
 pub record AllRight (table : List WorkedNet) : Type 0 where
-  pub each : (net : WorkedNet) → Mem net table → RightNet net
+  pub each : All RightNet table
