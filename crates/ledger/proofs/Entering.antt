@@ -1,10 +1,10 @@
 -- What the entry ledger holds after one row more.
 use Rattle.std.proofs.Common.{◌≡◌, ℕ, ◌+◌, ◌≤◌, List, ◌++◌, map, length, take, drop, sum_by, sum, sym, ap, ◌∙◌, arith}
 use Rattle.std.specs.List.{insert}
-use Rattle.std.proofs.lemmas.List.Sums.{sum_by-take-le}
+use Rattle.std.proofs.lemmas.List.Sums.{sum_by-take-le, sum_by-insert}
 use Rattle.ledger.specs.Rows.{Small, nonzeros, entry_charge}
 use Rattle.ledger.specs.Packed.{unpacked, packed, Exact}
-use Rattle.ledger.proofs.Insertions.{kept_after, sum_by_inserted}
+use Rattle.ledger.proofs.Insertions.{kept_after}
 use Rattle.ledger.proofs.Packing.{length_packed, length_spliced, map_inserted}
 use Rattle.ledger.proofs.Unpacking.{unpacked_inserted, expanded_packed}
 
@@ -21,7 +21,7 @@ module _ {ns : List ℕ} {ps : List (ℕ × ℕ)} {i : ℕ} {row ns' : List ℕ}
   at_within = let t = sum_by-take-le (λ x. x) ns i in omega (arith, t, e.sized)
 
   pub sum_entered : sum ns' ≡ sum ns + nonzeros row
-  sum_entered = ap sum e.sizes ∙ sum_by_inserted (λ x. x) ns i (nonzeros row)
+  sum_entered = ap sum e.sizes ∙ sum_by-insert (λ x. x) ns i (nonzeros row)
 
   pub length_entered : length ps' ≡ length ps + nonzeros row
   length_entered =

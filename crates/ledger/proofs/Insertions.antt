@@ -1,17 +1,9 @@
 -- What an insertion makes of a list that is in order.
-use Rattle.std.proofs.Common.{◌≡◌, ℕ, ◌+◌, ◌<◌, ◌≤◌, Bool, true, cond, List, [], ◌∷◌, ◌++◌, length, get_or, take, drop, sum_by, sym, refl, ap, ◌∙◌, subst, arith, length-take}
-use Rattle.std.proofs.lemmas.List.{take_all, drop_all, take_more}
+use Rattle.std.proofs.Common.{◌≡◌, ℕ, ◌+◌, ◌≤◌, Bool, true, cond, List, [], ◌∷◌, length, take, drop, sum_by, sym, refl, ap, ◌∙◌, subst, arith}
 use Rattle.std.specs.List.{insert, AllByRecursion}
-use Rattle.std.proofs.lemmas.List.Sums.{sum_by-append, sum_by-cons, sum_by-take-drop}
+use Rattle.std.proofs.lemmas.List.Sums.{sum_by-cons, sum_by-insert}
 use Rattle.std.proofs.ByRecursion.{All-append, All-take, All-drop}
 use Rattle.ledger.specs.Rows.{WellKept, Small}
-
-pub sum_by_inserted : {X : Type 0} (f : X → ℕ) (xs : List X) (i : ℕ) (y : X) → sum_by f (insert xs i y) ≡ sum_by f xs + f y
-sum_by_inserted f xs i y =
-    let a = sum_by-append f (take i xs) (y ∷ drop i xs) in
-    let b = sum_by-cons f y (drop i xs) in
-    let d = sum_by-take-drop f xs i in
-    omega (arith, a, b, d)
 
 pub all_inserted : {X : Type 0} (P : X → Type 0) (xs : List X) (i : ℕ) (y : X) → AllByRecursion P xs → P y → AllByRecursion P (insert xs i y)
 all_inserted P xs i y all here = All-append P (take i xs) (y ∷ drop i xs) (All-take P i xs all) (here, All-drop P i xs all)
@@ -23,7 +15,7 @@ pub kept_inserted :
 kept_inserted charge total rows i row o wide small fits = record {
   wide = all_inserted (λ r. length r ≡ 24) rows i row o.wide wide;
   small = all_inserted Small rows i row o.small small;
-  fits = let e = sum_by_inserted charge rows i row in omega (arith, e);
+  fits = let e = sum_by-insert charge rows i row in omega (arith, e);
 }
 
 -- the same of a list that equals the one with the row
@@ -41,13 +33,3 @@ made_when test changed same xs is holds = is ∙ ap (λ b. cond b changed same) 
 pub sum_by_one : {X : Type 0} (xs : List X) → sum_by (λ _. 1) xs ≡ length xs
 sum_by_one [] = refl
 sum_by_one (x ∷ xs) = sum_by-cons (λ _. 1) x xs ∙ (let e = sum_by_one xs in omega (arith, e))
-
--- an insertion at the end
-pub inserted_end : {X : Type 0} (xs : List X) (i : ℕ) (y : X) → length xs ≤ i → insert xs i y ≡ xs ++ (y ∷ [])
-inserted_end xs i y h = ap (λ zs. zs ++ (y ∷ drop i xs)) (take_all i xs h) ∙ ap (λ ys. xs ++ (y ∷ ys)) (drop_all i xs h)
-
--- the next element of a list goes to the end of those before it
-pub inserted_next : {X : Type 0} (xs : List X) (i : ℕ) (y : X) → i < length xs → y ≡ get_or xs i y → insert (take i xs) i y ≡ take (i + 1) xs
-inserted_next xs i y h is =
-    let n : length (take i xs) ≤ i = simp length-take (omega arith) in
-    inserted_end (take i xs) i y n ∙ ap (λ z. take i xs ++ (z ∷ [])) is ∙ sym (take_more xs i y h)

@@ -4,4 +4,3 @@ pub mod Units
 pub mod Packing
 pub mod Unpacking
 pub mod Entering
-pub mod Copying

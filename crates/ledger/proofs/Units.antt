@@ -8,7 +8,7 @@ use Rattle.std.proofs.lemmas.List.{drop_all}
 use Rattle.ledger.specs.declared.fault.LedgerFault.{LedgerFault}
 use Rattle.ledger.specs.declared.fault.LedgerFault.TheVariants.{NoRow, NoPosition, CountTooLarge, Full}
 use Rattle.ledger.specs.Rows.{unit, units, Small}
-use Rattle.ledger.specs.Calls.{Position, Held, Inserts, Reads}
+use Rattle.ledger.specs.Calls.{Position, Inserts}
 
 all_zero : (n : ℕ) → AllByRecursion (λ x. x ≤ 1048575) (replicate n 0)
 all_zero zero = tt
@@ -45,7 +45,3 @@ module _ (charge : List ℕ → ℕ) (total : ℕ) (rows : List (List ℕ)) (k :
 -- a unit row may be held
 pub unit_small : (i : ℕ) → Small (unit i)
 unit_small i j h = All-get_or (λ x. x ≤ 1048575) (unit i) j 0 (simp length-set (omega arith)) (All-set (λ x. x ≤ 1048575) (replicate 24 0) i 1 (omega arith) (all_zero 24))
-
--- a row that is held is read
-pub reads_held : (rows : List (List ℕ)) (k : ℕ) (e : LedgerFault) → Held k rows → Reads rows k (Err e) → ⊥
-reads_held rows k e held (why, not) = not held

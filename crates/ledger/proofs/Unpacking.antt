@@ -1,10 +1,9 @@
 -- What an insertion makes of the rows that the pairs stand for.
 use Rattle.std.proofs.Common.{◌≡◌, ℕ, zero, suc, ◌+◌, ◌-◌, ◌<◌, ◌≤◌, ◌≢◌, List, [], ◌∷◌, ◌++◌, length, get_or, take, drop, set, replicate, sum_by, sum, sym, refl, ap, ◌∙◌, subst, ⊎_elim, suc-add, zero-add, add-one, arith, length-drop, length-set, get_or-set_other, get_or-set_same, ext_get_or}
-use mathlib.Core.List.{map-append}
 use lib.Seq.{take-append_seam, drop-append_seam}
 use Rattle.std.proofs.lemmas.Bool.{cases_eq, cases_lt}
-use Rattle.std.proofs.lemmas.List.Sums.{sum_by-cons, sum_by_more, sum_by-take-le, sum-map, fold_push}
-use Rattle.std.proofs.lemmas.List.{get_or_default, take_more, drop-drop}
+use Rattle.std.proofs.lemmas.List.Sums.{sum_by-cons, sum-map, fold_push}
+use Rattle.std.proofs.lemmas.List.{get_or_default, drop-drop}
 use Rattle.std.specs.List.{insert}
 use Rattle.ledger.specs.declared.entry.Entry.{Entry}
 use Rattle.ledger.specs.Rows.{nonzeros, entry_charge}
@@ -119,25 +118,6 @@ unpacked_at (n ∷ ns) ps (suc k) h =
     unpacked_at ns (drop n ps) k (omega arith)
     ∙ ap (λ xs. expanded (take (get_or ns k 0) xs)) (drop-drop (sum (take k ns)) n ps)
     ∙ ap (λ at. expanded (take (get_or ns k 0) (drop at ps))) (sym (sum_by-cons (λ x. x) n (take k ns)))
-
--- its pairs are there
-pub size_within : (ns : List ℕ) (k : ℕ) → k < length ns → sum (take k ns) + get_or ns k 0 ≤ sum ns
-size_within ns k h = let a = sum_by_more (λ x. x) ns k 0 h in let b = sum_by-take-le (λ x. x) ns (k + 1) in omega (arith, a, b)
-
--- where the entries of a row begin, as the sum of the sizes before it was taken
-pub begins_at : (sizes part : List ℕ) (i at : ℕ) → part ≡ sizes → at ≡ sum (take (i - 0) part) → at ≡ sum (take i sizes)
-begins_at sizes part i at is at_is = at_is ∙ ap (λ n. sum (take n part)) (omega arith) ∙ ap (λ ns. sum (take i ns)) is
-
--- one entry more
-pub expanded_more :
-    (row : List ℕ) (es : List Entry) (i : ℕ) (e : Entry) → i < length es → e ≡ get_or es i e
-    → row ≡ expanded (pairs (take i es)) → placed row (pair e) ≡ expanded (pairs (take (i + 1) es))
-expanded_more row es i e h is was =
-    ap (λ xs. placed xs (pair e)) was
-    ∙ sym (fold_push placed (replicate 24 0) (pairs (take i es)) (pair e))
-    ∙ ap expanded (sym (map-append pair (take i es) (e ∷ [])))
-    ∙ ap (λ x. expanded (pairs (take i es ++ (x ∷ [])))) is
-    ∙ ap (λ xs. expanded (pairs xs)) (sym (take_more es i e h))
 
 pairs_take : (n : ℕ) (es : List Entry) → pairs (take n es) ≡ take n (pairs es)
 pairs_take zero es = refl

@@ -4,6 +4,7 @@
 --   Reads rows k r    what reading row k answers
 --   Uses rows k r     what asking for the steps in use of row k answers
 --   Position k rows   a row can be inserted at k
+--   Unplaced k n row fault   why the row cannot be inserted at k, where n rows are held: not there, or not this row
 --   Cause .. fault    why an insertion is refused: each cause says that none before it holds
 --   Inserts .. r      what an insertion answers, and which rows it leaves
 use Rattle.std.specs.Prelude.{◌≡◌, ℕ, ◌+◌, ◌-◌, ◌<◌, ◌≤◌, List, [], length, Ok, Err, sum_by, Result, slice_index_or}
@@ -26,6 +27,12 @@ Uses rows k (Err e) = (e ≡ NoRow) × (Held k rows → ⊥)
 
 abbrev pub Position : ℕ → List (List ℕ) → Type 0
 Position k rows = (1 ≤ k) × (k ≤ length rows + 1)
+
+abbrev pub Unplaced : ℕ → ℕ → List ℕ → LedgerFault → Type 0
+Unplaced k n row NoPosition = (1 ≤ k) × (k ≤ n + 1) → ⊥
+Unplaced k n row (CountTooLarge step) = (1 ≤ k) × (k ≤ n + 1) × FirstLarge row step
+Unplaced k n row Full = ⊥
+Unplaced k n row NoRow = ⊥
 
 abbrev pub Cause : (List ℕ → ℕ) → ℕ → List (List ℕ) → ℕ → List ℕ → LedgerFault → Type 0
 Cause charge total rows k row NoPosition = Position k rows → ⊥

@@ -7,5 +7,5 @@ use Rattle.ledger.specs.declared.fault.LedgerFault.TheVariants.{Full}
 use Rattle.ledger.specs.declared.Ledger.{Ghosts as Kind}
 
 abbrev pub Copied : {L M : Type 0} → Kind L → Kind M → L → M → M → Result (Unit {0}) LedgerFault → Type 0
-Copied k m from before after (Ok _) = (sum_by m.charge (k.rows from) ≤ m.total) × m.orderly after × (m.rows after ≡ k.rows from)
-Copied k m from before after (Err e) = (m.total < sum_by m.charge (k.rows from)) × (e ≡ Full) × (after ≡ before)
+Copied k m from before after (Ok _) = (sum_by m.charge (k.rows from) ≤ m.TOTAL) × m.orderly after × (m.rows after ≡ k.rows from)
+Copied k m from before after (Err e) = (m.TOTAL < sum_by m.charge (k.rows from)) × (e ≡ Full) × (after ≡ before)

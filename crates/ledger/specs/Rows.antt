@@ -36,5 +36,5 @@ pub record Mask (row : List ℕ) (m : ℕ) : Type 0 where
 abbrev pub nonzeros : List ℕ → ℕ
 nonzeros row = count_by (λ n. not (n == 0)) row
 
-unfoldable pub entry_charge : List ℕ → ℕ
+abbrev pub entry_charge : List ℕ → ℕ
 entry_charge row = 1 + nonzeros row

@@ -1,4 +1,5 @@
 // What can be done with any two ledgers, of whichever kinds: comparing and copying their rows.
+// Rows are read by number, since a ledger lends none: the entry ledger makes each anew.
 ghost use Rattle.std.specs.Prelude.{◌≡◌, ◌-◌, ◌≤◌, [], Decides, sum_by, slice_index_or};
 ghost use Rattle.ledger.specs.Calls.{Held};
 ghost use Rattle.ledger.specs.Clients.{Copied};
@@ -26,8 +27,8 @@ pub fn same_rows<L: Ledger, M: Ledger>(a: &L, b: &M) -> bool
     if n != b.len() {
         return false;
     }
-    for i in 0..n {
-        if !same_row(a, b, i + 1) {
+    for k in 1..=n {
+        if !same_row(a, b, k) {
             return false;
         }
     }
@@ -36,12 +37,11 @@ pub fn same_rows<L: Ledger, M: Ledger>(a: &L, b: &M) -> bool
 
 // Whether the rows of a ledger fit into an empty one of another kind.
 fn fits<L: Ledger, M: Ledger>(from: &L) -> bool
-    ensures { L.Ledger.orderly from.now → Decides result (sum_by M.Ledger.charge (L.Ledger.rows from.now) ≤ M.Ledger.total) }
+    ensures { L.Ledger.orderly from.now → Decides result (sum_by M.Ledger.charge (L.Ledger.rows from.now) ≤ M.Ledger.TOTAL) }
 {
-    let n = from.len();
-    let mut left = M::capacity();
-    for i in 0..n {
-        let Ok(row) = from.read(i + 1) else {
+    let mut left = M::TOTAL;
+    for k in 1..=from.len() {
+        let Ok(row) = from.read(k) else {
             return false;
         };
         let charge = M::charge_of(&row);
@@ -61,10 +61,9 @@ pub fn copy_rows<L: Ledger, M: Ledger>(from: &L, to: &mut M) -> Result<(), Ledge
         return Err(LedgerFault::Full);
     }
     to.clear();
-    let n = from.len();
-    for i in 0..n {
-        let row = from.read(i + 1)?;
-        to.insert(i + 1, &row)?;
+    for k in 1..=from.len() {
+        let row = from.read(k)?;
+        to.insert(k, &row)?;
     }
     Ok(())
 }

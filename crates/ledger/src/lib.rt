@@ -9,24 +9,26 @@ mod client;
 mod entries;
 mod entry;
 mod fault;
+mod index;
 mod packed;
+mod pair;
 mod row;
 mod ruled;
 
 pub use client::{copy_rows, same_rows};
 pub use entries::EntryLedger;
 pub use fault::LedgerFault;
-pub use row::Row;
+pub use pair::Ledgers;
+pub use row::{MOST_COUNT, Row};
 pub use ruled::RuledLedger;
 
 // A list of rows of 24 counts, each from 0 to 1,048,575. Every row has a charge, and the charges of the rows held never pass the total.
 // All but emptying is promised of ledgers in order only: `orderly` names that state, emptying gives it, and no call ends it.
 pub trait Ledger {
-    // The most that the charges of the rows held may come to.
+    // The most that the charges of the rows held may come to; and the same number for clauses and laws.
     const TOTAL: u32;
 
-    // TOTAL, for laws and clauses, which cannot name a constant of the trait.
-    ghost total: { ℕ };
+    ghost TOTAL: { ℕ };
 
     // What the ledger means: the rows that it holds, first to last.
     ghost rows: { Self → List (List ℕ) };
@@ -36,10 +38,6 @@ pub trait Ledger {
 
     // The charge of a row, which depends on the row alone.
     ghost charge: { List ℕ → ℕ };
-
-    // TOTAL.
-    fn capacity() -> u32
-        ensures { result ≡ total };
 
     // What the row would be charged.
     fn charge_of(row: &Row) -> u32
@@ -60,24 +58,28 @@ pub trait Ledger {
 
     // The steps in use of row k, a bit for each step.
     fn used(&self, k: usize) -> Result<u32, LedgerFault>
-        ensures { orderly self.now → Uses (rows self.now) k result };
+        ensures { orderly self.now → Uses (rows self.now) k result }
+    {
+        let row = self.read(k)?;
+        Ok(row.used())
+    }
 
     // Puts the row before the present row k, or at the end where k is the number of rows plus 1.
     fn insert(&mut self, k: usize, row: &Row) -> Result<(), LedgerFault>
-        ensures answer { orderly self.old → Inserts charge total (rows self.old) k row.now.counts (rows self.new) result }
+        ensures answer { orderly self.old → Inserts charge TOTAL (rows self.old) k row.now.counts (rows self.new) result }
         ensures order { orderly self.old → orderly self.new };
 
     // The total lies from 48 to 1,024.
-    ghost low: { 48 ≤ total };
+    ghost low: { 48 ≤ TOTAL };
 
-    ghost high: { total ≤ 1024 };
+    ghost high: { TOTAL ≤ 1024 };
 
     // No row is free of charge.
     ghost positive: { (row : List ℕ) → 1 ≤ charge row };
 
     // The 24 rows with one step counted once fit into an empty ledger together.
-    ghost first: { sum_by charge (units 24) ≤ total };
+    ghost first: { sum_by charge (units 24) ≤ TOTAL };
 
     // In order, the rows are 24 counts wide, no count is too large, and their charges do not pass the total.
-    ghost kept: { (s : Self) → orderly s → WellKept charge total (rows s) };
+    ghost kept: { (s : Self) → orderly s → WellKept charge TOTAL (rows s) };
 }

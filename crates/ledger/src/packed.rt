@@ -1,21 +1,9 @@
 // Packing rows into entries, and taking them out again.
-ghost use Rattle.std.specs.Prelude.{◌≡◌, ◌+◌, ◌≤◌, ◌++◌, length, take, drop, vec_len, vec_capacity, sum};
+ghost use Rattle.std.specs.Prelude.{◌≡◌, ◌+◌, ◌≤◌, ◌++◌, length, take, drop, vec_len, vec_capacity};
 ghost use Rattle.ledger.specs.Packed.{pairs, packed, expanded};
 
 use crate::Row;
 use crate::entry::Entry;
-
-// How many entries the rows of these sizes have.
-pub(crate) fn total(sizes: &[usize]) -> usize
-    requires { sum sizes.now ≤ 1024 }
-    ensures { result ≡ sum sizes.now }
-{
-    let mut entries = 0;
-    for size in sizes {
-        entries += *size;
-    }
-    entries
-}
 
 // Puts the non-zero counts of a row among the entries, from `at` on.
 pub(crate) fn pack(entries: &mut Vec<Entry>, at: usize, row: &Row)

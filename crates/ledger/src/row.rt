@@ -1,28 +1,13 @@
 // A row of counts, one for each of 24 steps.
-ghost use Rattle.std.specs.Prelude.{◌≡◌, ◌≤◌, length, replicate, Decides, MatchOption, nat_eq};
+ghost use Rattle.std.specs.Prelude.{◌≡◌, ◌≤◌, length, replicate, MatchOption};
 ghost use Rattle.ledger.specs.Rows.{Small, Mask, FirstLarge, nonzeros};
-ghost use Rattle.std.specs.Cmp.Lexicographic.{pointwise};
-ghost use Rattle.std.specs.Cmp.Rules.{comparing};
-ghost use Rattle.std.proofs.Common.{rules};
-ghost use Rattle.std.specs.Cmp as Keys;
 
-#[derive(Clone, Copy, Eq, Debug)]
+// The most that a count of a row held may be.
+pub const MOST_COUNT: u32 = 1_048_575;
+
+#[derive(Clone, Copy, PartialEq, Eq, Debug)]
 pub struct Row {
     pub counts: [u32; 24],
-}
-
-// Rows are equal where their counts are.
-impl PartialEq for Row {
-    ghost eq = { λ a b. pointwise nat_eq a.counts b.counts };
-
-    ghost laws = { Keys.partial_equiv_from_equiv (Prim.search (comparing, rules)) };
-
-    fn eq(&self, other: &Row) -> bool
-        ensures computed { result ≡ pointwise nat_eq self.now.counts other.now.counts }
-        ensures decided { Decides result (self.now.counts ≡ other.now.counts) }
-    {
-        self.counts == other.counts
-    }
 }
 
 impl Row {
@@ -37,12 +22,8 @@ impl Row {
     pub fn first_large(&self) -> Option<usize>
         ensures { MatchOption result (Small self.now.counts) (λ j. FirstLarge self.now.counts j) }
     {
-        for (j, count) in self.counts.iter().enumerate() {
-            if *count > 1_048_575 {
-                return Some(j + 1);
-            }
-        }
-        None
+        let large = self.counts.iter().position(|count| *count > MOST_COUNT);
+        large.map(|j| j + 1)
     }
 
     // The steps in use: bit j - 1 is 1 exactly when step j has a count other than 0.
@@ -64,12 +45,6 @@ impl Row {
         ensures wide { length self.now.counts ≡ 24 }
         ensures bound { result ≤ 24 }
     {
-        let mut n = 0;
-        for count in &self.counts {
-            if *count != 0 {
-                n += 1;
-            }
-        }
-        n
+        self.counts.iter().filter(|count| **count != 0).count()
     }
 }

@@ -1,10 +1,11 @@
 // The ruled ledger keeps every count of each row. A row is charged 1, and the total is 128.
 ghost use Rattle.std.specs.Prelude.{◌≤◌, vec_capacity};
 ghost use Rattle.ledger.specs.Rows.{WellKept};
-ghost use Rattle.std.proofs.Common.{rules, arith};
+ghost use Rattle.std.proofs.Common.{rules};
 
 mod new;
 
+use crate::index::{insertion_index, row_index};
 use crate::{Ledger, LedgerFault, Row};
 
 // The rows, and room for all that may be held.
@@ -17,7 +18,7 @@ pub struct RuledLedger {
 impl Ledger for RuledLedger {
     const TOTAL: u32 = 128;
 
-    ghost total = { 128 };
+    ghost TOTAL = { 128 };
 
     ghost rows = { λ s. s.kept.items };
 
@@ -25,19 +26,15 @@ impl Ledger for RuledLedger {
 
     ghost charge = { λ _. 1 };
 
-    ghost low = { first_of (Prim.search rules, Prim.grind (arith, Self.row.coded.inj)) };
+    ghost low = { Prim.search rules };
 
-    ghost high = { first_of (Prim.search rules, Prim.grind (arith, Self.row.coded.inj)) };
+    ghost high = { Prim.search rules };
 
-    ghost positive = { first_of (Prim.search rules, Prim.grind (arith, Self.row.coded.inj)) };
+    ghost positive = { Prim.search rules };
 
-    ghost first = { first_of (Prim.search rules, Prim.grind (arith, Self.row.coded.inj)) };
+    ghost first = { Prim.search rules };
 
-    ghost kept = { first_of (Prim.search rules, Prim.grind (arith, Self.row.coded.inj)) };
-
-    fn capacity() -> u32 {
-        Self::TOTAL
-    }
+    ghost kept = { Prim.search rules };
 
     fn charge_of(_row: &Row) -> u32 {
         1
@@ -52,31 +49,19 @@ impl Ledger for RuledLedger {
     }
 
     fn read(&self, k: usize) -> Result<Row, LedgerFault> {
-        if k == 0 || k > self.kept.len() {
-            return Err(LedgerFault::NoRow);
-        }
+        let i = row_index(k, self.kept.len())?;
         Ok(Row {
-            counts: self.kept[k - 1],
+            counts: self.kept[i],
         })
     }
 
-    fn used(&self, k: usize) -> Result<u32, LedgerFault> {
-        let row = self.read(k)?;
-        Ok(row.used())
-    }
-
     fn insert(&mut self, k: usize, row: &Row) -> Result<(), LedgerFault> {
-        if k == 0 || k > self.kept.len() + 1 {
-            return Err(LedgerFault::NoPosition);
-        }
-        if let Some(step) = row.first_large() {
-            return Err(LedgerFault::CountTooLarge(step));
-        }
+        let i = insertion_index(k, self.kept.len(), row)?;
         if self.kept.len() >= Self::TOTAL as usize {
             return Err(LedgerFault::Full);
         }
         // There is room, so that this is not refused.
-        let _ = self.kept.insert(k - 1, row.counts);
+        let _ = self.kept.insert(i, row.counts);
         Ok(())
     }
 }

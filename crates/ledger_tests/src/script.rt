@@ -67,10 +67,8 @@ pub(crate) const SCRIPT: [(Call, Answer); 25] = [
 // The row whose steps from `first` on have this count.
 fn row_from(first: usize, count: u32) -> Row {
     let mut row = Row::zeros();
-    for j in 0..24usize {
-        if j + 1 >= first {
-            row.counts[j] = count;
-        }
+    for c in row.counts.iter_mut().skip(first.saturating_sub(1)) {
+        *c = count;
     }
     row
 }

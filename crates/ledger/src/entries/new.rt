@@ -1,4 +1,4 @@
-// Making an entry ledger.
+// Making an entry ledger. Each kind takes memory of its own shape, so the kinds share no constructor.
 ghost use Rattle.std.specs.Prelude.{IfOk};
 ghost use Rattle.ledger.specs.Empty.{Empty};
 ghost use Rattle.ledger.specs.contracts.entries.EntryLedgerLedger.TheImpl.{ghosts as entry};

@@ -1,4 +1,4 @@
-// Making a ruled ledger.
+// Making a ruled ledger. Each kind takes memory of its own shape, so the kinds share no constructor.
 ghost use Rattle.std.specs.Prelude.{IfOk};
 ghost use Rattle.ledger.specs.Empty.{Empty};
 ghost use Rattle.ledger.specs.contracts.ruled.RuledLedgerLedger.TheImpl.{ghosts as ruled};

@@ -33,25 +33,6 @@ pairs_inserted :
     → pairs es' ≡ insert (pairs es) i (pair entry)
 pairs_inserted es es' i entry ok is holds = ap pairs (made_when ok (insert es i entry) es es' is holds) ∙ map_inserted pair es i entry
 
-pub insert-requires : goal.insert-requires
-insert-requires c =
-    let l = c.args.entries.now.ok.0 in
-    let l' = c.loop-step.entries.ok.0 in
-    let w = c.requires.within in
-    let e = counted (vec_items c.args.entries.now) (vec_items c.loop-step.entries) c.args.row.now.counts c.args.at c.loop-step.step (omega (arith, l, w)) c.loop-step.invariant.1 in
-    let n = c.loop-step.invariant.0 in
-    omega (arith, l, l', w, e, n)
-
-pub overflow_add-next : goal.overflow_add-next
-overflow_add-next c =
-    let p = packed_within c.args.row.now.counts c.loop-step.step (omega arith) in
-    let w = c.requires.within in
-    let r = c.requires.room in
-    let s = c.args.entries.now.small in
-    let k = c.args.entries.now.ok.1 in
-    let n = c.loop-step.invariant.0 in
-    omega (arith, p, w, r, s, k, n)
-
 pub loop-step-preserved : goal.loop-step-preserved
 loop-step-preserved c =
     let es = vec_items c.args.entries.now in

@@ -1,45 +1,25 @@
-use Rattle.std.proofs.Common.{◌+◌, ◌-◌, ◌<◌, ◌≤◌, ◌++◌, length, take, drop, vec_items, vec_len, vec_capacity, sum_by, sum, ap, ◌∙◌, arith, rules}
+use Rattle.std.proofs.Common.{◌+◌, ◌<◌, ◌≤◌, ◌++◌, take, drop, vec_items, vec_len, vec_capacity, sum_by, ap, ◌∙◌, arith, rules}
 use lib.ListN.{length-map}
 use Rattle.std.specs.List.{insert}
-use Rattle.std.proofs.lemmas.List.Sums.{sum_by-take-le}
 use Rattle.ledger.specs.Rows.{Small, entry_charge}
 use Rattle.ledger.specs.Packed.{pair, pairs, unpacked, packed, Exact}
 use Rattle.ledger.proofs.Insertions.{made_when}
 use Rattle.ledger.proofs.Packing.{length_packed}
-use Rattle.ledger.proofs.Unpacking.{length_unpacked, begins_at, charges_are}
+use Rattle.ledger.proofs.Unpacking.{length_unpacked, charges_are}
 use Rattle.ledger.proofs.Entering.{Entered, sum_entered, length_entered, rows_entered, exact_entered}
 use Rattle.ledger.proofs.entries.EntryLedgerLedger.insert.Goals as goal
 use Rattle.ledger.proofs.entries.EntryLedgerLedger.insert.Goals.{After-insert}
 
-pub returns-then-k-eq0 : goal.returns-then-k-eq0
-returns-then-k-eq0 c =
-    let n = length_unpacked (vec_items c.args.self.now.sizes) (pairs (vec_items c.args.self.now.entries)) in search rules
-
-pub returns-in-Some : goal.returns-in-Some
-returns-in-Some c =
-    let n = length_unpacked (vec_items c.args.self.now.sizes) (pairs (vec_items c.args.self.now.entries)) in search rules
-
-pub returns-then-len-size : goal.returns-then-len-size
-unfolding entry_charge
-returns-then-len-size c =
+pub returns-then-len-size-clause-answer : goal.returns-then-len-size-clause-answer
+returns-then-len-size-clause-answer c = λ o.
     let sizes = vec_items c.args.self.now.sizes in
     let ps = pairs (vec_items c.args.self.now.entries) in
     let n = length_unpacked sizes ps in
-    record { answer = λ o. (let e = charges_are sizes ps o in search rules); order = λ o. o }
-
-pub pack-requires : goal.pack-requires
-pack-requires c =
-    let p = length_packed c.args.row.now.counts c.nonzeros-size.ensures.wide in
-    let t = sum_by-take-le (λ x. x) (vec_items c.args.self.now.sizes) (c.args.k - 1) in
+    let e = charges_are sizes ps o in
     search rules
 
-pub total-at-requires : goal.total-at-requires
-total-at-requires c =
-    let t = sum_by-take-le (λ x. x) c.deref.result.now (c.args.k - 1 - 0) in
-    let v = ap sum c.deref.ensures.value in
-    let s = c.args.self.now.sized in
-    let f = c.args.self.now.few in
-    omega (arith, t, v, s, f)
+pub pack-requires-clause-room : goal.pack-requires-clause-room
+pack-requires-clause-room c = let p = length_packed c.args.row.now.counts c.nonzeros-size.ensures.wide in search rules
 
 -- there is room for one size more
 room : (c : goal.After-insert) → vec_len c.args.self.now.sizes < vec_capacity c.args.self.now.sizes
@@ -52,11 +32,11 @@ room c =
 -- the row's entries and their number went in at their place
 entered :
     (c : goal.After-insert)
-    → Entered (vec_items c.args.self.now.sizes) (pairs (vec_items c.args.self.now.entries)) (c.args.k - 1) c.args.row.now.counts (vec_items c.insert.new.self) (pairs (vec_items c.pack.new.entries))
+    → Entered (vec_items c.args.self.now.sizes) (pairs (vec_items c.args.self.now.entries)) c.in_ok-i.i c.args.row.now.counts (vec_items c.insert.new.self) (pairs (vec_items c.pack.new.entries))
 entered c =
     let sizes = vec_items c.args.self.now.sizes in
     let ps = pairs (vec_items c.args.self.now.entries) in
-    let i = c.args.k - 1 in
+    let i = c.in_ok-i.i in
     let l = c.args.self.now.entries.ok.0 in
     let m = length-map (vec_items c.args.self.now.entries) pair in
     let s = c.args.self.now.sized in
@@ -67,7 +47,7 @@ entered c =
       sizes =
           made_when _ _ _ _ c.insert.ensures.items (c.insert.ensures.succeeds (room c))
           ∙ ap (insert sizes i) c.nonzeros-size.ensures.value;
-      spliced = c.pack.ensures.items ∙ ap (λ at. take at ps ++ (packed c.args.row.now.counts 24 ++ drop at ps)) (begins_at sizes c.deref.result.now i c.total-at.result c.deref.ensures.value c.total-at.ensures);
+      spliced = c.pack.ensures.items ∙ ap (λ at. take at ps ++ (packed c.args.row.now.counts 24 ++ drop at ps)) c.start-at.ensures.begins;
     }
 
 pub invariant_of-self : goal.invariant_of-self
@@ -95,14 +75,12 @@ invariant_of-self c =
     }
 
 pub returns : goal.returns
-unfolding entry_charge
 returns c =
     let e = entered (goal.at.returns c).After-insert in
     let sizes = vec_items c.args.self.now.sizes in
     let ps = pairs (vec_items c.args.self.now.entries) in
     let n = length_unpacked sizes ps in
-    let low : 1 ≤ c.args.k = search rules in
-    let high : c.args.k ≤ length (unpacked sizes ps) + 1 = search rules in
+    let rows = rows_entered e in
     let small : Small c.args.row.now.counts = search rules in
     let fits : Exact sizes ps → sum_by entry_charge (unpacked sizes ps) + entry_charge c.args.row.now.counts ≤ 1024 = λ o. (let all = charges_are sizes ps o in search rules) in
-    record { answer = λ o. ((low, high), small, fits o, rows_entered e); order = λ o. exact_entered e o small (fits o) }
+    record { answer = λ o. (let f = fits o in search rules); order = λ o. exact_entered e o small (fits o) }
