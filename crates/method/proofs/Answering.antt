@@ -76,17 +76,17 @@ module _ {L : Type 0} (kind : Kind L) (new : List Counts) (short : (w : Counts) 
   answer_rest : some_large new ≡ false → cond (overfull kind new) (Err (Ledger Full)) (Ok tt) ≡ step_answer kind new
   answer_rest f = sym (ap (λ (b : Bool). cond b (Err RowTooLarge) (cond (overfull kind new) (Err (Ledger Full)) (Ok tt))) f)
 
-  answer_is : (spare : L) → (kind.orderly spare → sum_by kind.charge (kind.rows spare) ≤ kind.total) → (r : Result (Unit {0}) StepFault) → Ended kind (written new) spare r → r ≡ step_answer kind new
+  answer_is : (spare : L) → (kind.orderly spare → sum_by kind.charge (kind.rows spare) ≤ kind.TOTAL) → (r : Result (Unit {0}) StepFault) → Ended kind (written new) spare r → r ≡ step_answer kind new
   answer_is spare fits (Ok tt) (order, small, rows) =
-      let within : sum_by kind.charge (written new) ≤ kind.total = subst (λ (l : List Counts). sum_by kind.charge l ≤ kind.total) rows (fits order) in
-      sym (ap (λ (b : Bool). cond b (Err (Ledger Full)) (Ok tt)) (le-ltb kind.total (sum_by kind.charge (written new)) within)) ∙ answer_rest (all_small small)
+      let within : sum_by kind.charge (written new) ≤ kind.TOTAL = subst (λ (l : List Counts). sum_by kind.charge l ≤ kind.TOTAL) rows (fits order) in
+      sym (ap (λ (b : Bool). cond b (Err (Ledger Full)) (Ok tt)) (le-ltb kind.TOTAL (sum_by kind.charge (written new)) within)) ∙ answer_rest (all_small small)
   answer_is spare fits (Err RowTooLarge) large = answer_large (some_row_large large)
   answer_is spare fits (Err (Ledger e)) (full, small, above) =
       ap (λ f. Err (Ledger f)) full
-      ∙ sym (ap (λ (b : Bool). cond b (Err (Ledger Full)) (Ok tt)) (lt-ltb kind.total (sum_by kind.charge (written new)) above))
+      ∙ sym (ap (λ (b : Bool). cond b (Err (Ledger Full)) (Ok tt)) (lt-ltb kind.TOTAL (sum_by kind.charge (written new)) above))
       ∙ answer_rest (all_small small)
 
-  module _ (spare : L) (fits : kind.orderly spare → sum_by kind.charge (kind.rows spare) ≤ kind.total) where
+  module _ (spare : L) (fits : kind.orderly spare → sum_by kind.charge (kind.rows spare) ≤ kind.TOTAL) where
     -- accepted
     pub made_kept : (r : Result (Unit {0}) StepFault) → is_err r ≡ false → Ended kind (written new) spare r → Made kind new r spare
     made_kept (Ok _) ok ended = record { order = ended.0; answered = answer_is spare fits (Ok tt) ended; rows = ended.2 }

@@ -1,13 +1,20 @@
 -- What `third & !pair == 0` says of the rows.
-use Rattle.std.proofs.Common.{◌≡◌, ℕ, zero, suc, ◌+◌, ◌-◌, ◌*◌, ◌/◌, ◌%◌, ◌^◌, ◌<◌, ◌≤◌, cond, eqb, List, length, get_or, Decides, sym, ap, ◌∙◌, ⊎_elim, pow-suc, arith, eq-eqb, ne_eqb, eqb-true}
+use Rattle.std.proofs.Common.{◌≡◌, ℕ, zero, suc, ◌+◌, ◌-◌, ◌*◌, ◌/◌, ◌%◌, ◌^◌, ◌<◌, ◌≤◌, Bool, true, not, ◌&&◌, cond, eqb, ℤ, List, length, get_or, Decides, sym, ap, ◌∙◌, subst, ⊎_elim, pow-suc, arith, eq-eqb, ne_eqb, eqb-true}
 use native.Mathlib.Nat.{zero-div}
 use lib.Bits.{bit_and, bit_or, and_shr, and_mod, or_shr, or_mod, and_le_l, or_lt, and_zero_r}
 use Rattle.std.proofs.lemmas.Nat.{shr-shr}
-use Rattle.std.proofs.lemmas.Bool.{cases_eq, cases_lt}
+use Rattle.std.proofs.lemmas.Bool.{cases_eq, cases_lt, and_parts, and_from, not-true, not_from_false}
 use Rattle.cycle_theory.specs.Nets.{Counts, at}
 use Rattle.cycle_theory.specs.Theorems.{WithinPair}
 use Rattle.cycle_theory.proofs.Rows.{at_past}
 use Rattle.ledger.specs.Rows.{Mask}
+use Rattle.std.specs.List.{list_any, Any}
+use Rattle.std.proofs.lemmas.List.Folds.{Any-from_list_any, list_any_at}
+use borrow.Author.Tests.{both_ways}
+use Rattle.method.specs.Ascents.{row_at}
+use Rattle.method.proofs.Surveying.{told_here}
+use Rattle.method.specs.declared.reading.Reading.{Reading}
+use Rattle.method.specs.Surveys.{Told, Surveyed, Third}
 
 -- whatever step of the 24 `row` counts, a or b counts too
 abbrev Covered : List ℕ → List ℕ → List ℕ → Type 0
@@ -104,8 +111,38 @@ within_covered u v w i j h zu zv = ⊎_elim (λ e. e)
     (λ ne. absurd (let k = i j (omega (arith, ne)) in let f : ⊥ = omega (arith, k, zu, zv) in f))
     (cases_eq (at w j) 0)
 
-pub mask_decides : (w u v : Counts) (m x y : ℕ) → length w ≡ 24 → Mask w m → Mask u x → Mask v y → Decides (eqb (bit_and m (4294967295 - bit_or x y)) 0) (WithinPair w u v)
+mask_decides : (w u v : Counts) (m x y : ℕ) → length w ≡ 24 → Mask w m → Mask u x → Mask v y → Decides (eqb (bit_and m (4294967295 - bit_or x y)) 0) (WithinPair w u v)
 mask_decides w u v m x y wide mw mu mv = (
   (λ t. covered_within u v w wide (covered_from w u v m x y mw mu mv (eqb-true _ _ t))),
   (λ i. eq-eqb _ _ (covered_to w u v m x y mw mu mv (within_covered u v w i))),
 )
+
+-- whether the row of a reading is a third one that uses only steps of the two
+abbrev pub is_third : Reading → Reading → Reading → Bool
+is_third a b r = not (eqb r.row a.row) && (not (eqb r.row b.row) && eqb (bit_and r.mask (4294967295 - bit_or a.mask b.mask)) 0)
+
+module _ (p : List ℤ) (rows : List Counts) (s : List Reading) (a b : Reading) (surveyed : Surveyed p rows s) (ta : Told p rows a) (tb : Told p rows b) where
+  third_from : Any (λ r. is_third a b r ≡ true) s → Third rows a.row b.row
+  third_from (k, r, l, is, t) =
+      let told = told_here p rows s k r surveyed l (sym is) in
+      let first = and_parts _ _ t in
+      let second = and_parts _ _ first.1 in (
+        r.row,
+        told.inside,
+        (λ e. both_ways _ (not-true _ first.0) (eq-eqb _ _ e)),
+        (λ e. both_ways _ (not-true _ second.0) (eq-eqb _ _ e)),
+        (mask_decides (row_at rows r.row) (row_at rows a.row) (row_at rows b.row) r.mask a.mask b.mask told.wide told.mask_is ta.mask_is tb.mask_is).0 second.1,
+      )
+
+  third_to : Third rows a.row b.row → list_any (is_third a b) s ≡ true
+  third_to (k, l, na, nb, within) =
+      let r = get_or s k a in
+      let here : k < length s = let many = surveyed.many in omega (arith, many, l) in
+      let told = surveyed.told k a here in
+      let turn : r.row ≡ k = surveyed.in_turn k a here in
+      list_any_at (is_third a b) s k a here (and_from _ _ (not_from_false _ (ne_eqb _ _ (λ e. na (sym turn ∙ e)))) (and_from _ _ (not_from_false _ (ne_eqb _ _ (λ e. nb (sym turn ∙ e))))
+      ((mask_decides (row_at rows r.row) (row_at rows a.row) (row_at rows b.row) r.mask a.mask b.mask told.wide told.mask_is ta.mask_is tb.mask_is).1
+      (subst (λ i. WithinPair (row_at rows i) (row_at rows a.row) (row_at rows b.row)) (sym turn) within))))
+
+  pub third_decides : (t : Bool) → t ≡ list_any (is_third a b) s → Decides t (Third rows a.row b.row)
+  third_decides t is = ((λ e. third_from (Any-from_list_any (is_third a b) s (sym is ∙ e))), (λ third. is ∙ third_to third))

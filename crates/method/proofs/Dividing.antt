@@ -1,38 +1,19 @@
--- Euclid's turns, the divisor of a row from its last count on, and a row in lowest terms.
-use Rattle.std.proofs.Common.{◌≡◌, ℕ, zero, suc, ◌+◌, ◌-◌, ◌*◌, ◌/◌, ◌%◌, ◌<◌, ◌≤◌, max, ◌∷◌, length, get_or, drop, sym, refl, ap, ◌∙◌, ⊎_elim, not-suc-le-zero, mod-lt, eq-zero-or-pos, arith, ext_get_or}
+-- The divisor of a row, r × u + s × v, and a row in lowest terms.
+use Rattle.std.proofs.Common.{◌≡◌, ℕ, ◌+◌, ◌*◌, ◌/◌, ◌<◌, max, [], ◌∷◌, length, reverse, sym, refl, ap, ◌∙◌, ⊎_elim, eq-zero-or-pos, arith, ext_get_or}
 use native.Mathlib.Nat.{zero-div}
-use Rattle.std.proofs.lemmas.List.{drop_more}
+use Rattle.std.specs.List.{fold}
+use Rattle.std.proofs.lemmas.List.{reverse-append}
+use Rattle.std.proofs.lemmas.List.Sums.{fold-append}
 use Rattle.cycle_theory.specs.Nets.{Counts, at}
 use Rattle.cycle_theory.specs.Flows.{Factor}
-use Rattle.cycle_theory.specs.Method.{gcd_to, gcd, divisor, divided, weighted}
+use Rattle.cycle_theory.specs.Method.{gcd, divisor, divided, weighted}
 use Rattle.cycle_theory.proofs.Rows.{length_tabulate, at_tabulate}
 use Rattle.cycle_theory.proofs.Divisors.{divisor_divides}
 
--- any bound on the turns that is not too low gives the same
-gcd_to_enough : (k l a b : ℕ) → b ≤ k → b ≤ l → gcd_to k a b ≡ gcd_to l a b
-gcd_to_enough zero zero a b h i = refl
-gcd_to_enough zero (suc l) a zero h i = refl
-gcd_to_enough zero (suc l) a (suc b) h i = absurd (not-suc-le-zero h)
-gcd_to_enough (suc k) zero a zero h i = refl
-gcd_to_enough (suc k) zero a (suc b) h i = absurd (not-suc-le-zero i)
-gcd_to_enough (suc k) (suc l) a zero h i = refl
-gcd_to_enough (suc k) (suc l) a (suc b) h i =
-    let m = mod-lt a {m = suc b} (omega arith) in
-    gcd_to_enough k l (suc b) (a % suc b) (omega (arith, m)) (omega (arith, m))
-
-pub gcd_turn : (a b : ℕ) → (b ≡ 0 → ⊥) → gcd b (a % b) ≡ gcd a b
-gcd_turn a zero ne = absurd (ne refl)
-gcd_turn a (suc b) ne = let m = mod-lt a {m = suc b} (omega arith) in gcd_to_enough (a % suc b) b (suc b) (a % suc b) (omega arith) (omega (arith, m))
-
-pub gcd_end : (a b : ℕ) → b ≡ 0 → gcd a b ≡ a
-gcd_end a b e = ap (λ (m : ℕ). gcd a m) e
-
--- one count more, before the others
-pub divisor_more : (x : Counts) (j d : ℕ) → 0 < j → j ≤ length x → d ≡ divisor (drop j x) → gcd (get_or x (j - 1) 0) d ≡ divisor (drop (j - 1) x)
-divisor_more x j d some inside is =
-    let e : j - 1 + 1 ≡ j = omega arith in
-    let front : drop (j - 1) x ≡ get_or x (j - 1) 0 ∷ drop (j - 1 + 1) x = drop_more x (j - 1) 0 (omega arith) in
-    ap (λ (m : ℕ). gcd (get_or x (j - 1) 0) m) (is ∙ ap (λ (k : ℕ). divisor (drop k x)) (sym e)) ∙ sym (ap divisor front)
+-- a row's counts, the last one first
+pub divisor_folded : (x : Counts) → fold (λ d n. gcd n d) 0 (reverse x) ≡ divisor x
+divisor_folded [] = refl
+divisor_folded (c ∷ x) = ap (fold (λ d n. gcd n d) 0) (reverse-append (c ∷ []) x) ∙ fold-append (λ d n. gcd n d) 0 (reverse x) (c ∷ []) ∙ ap (gcd c) (divisor_folded x)
 
 pub is_weighted : (r s : ℕ) (u v w : Counts) → length u ≡ 24 → length w ≡ 24 → ((j : ℕ) → j < 24 → at w j ≡ r * at u j + s * at v j) → w ≡ weighted r u s v
 is_weighted r s u v w lu lw each =

@@ -6,15 +6,9 @@ use Rattle.cycle_theory.specs.Flows.{Flow, Cover}
 use Rattle.ledger.specs.declared.Ledger.{Ghosts as Kind}
 use Rattle.ledger.specs.declared.fault.LedgerFault.{LedgerFault}
 use Rattle.ledger.specs.Rows.{Small}
-use Rattle.method.specs.declared.fault.StepFault.{StepFault}
-use Rattle.method.specs.declared.fault.StepFault.TheVariants.{RowTooLarge, Ledger}
-use Rattle.method.specs.Building.{Room, SoFar, Filled, Grown, Added, Ended}
+use Rattle.method.specs.declared.fault.StepFault.TheVariants.{Ledger}
+use Rattle.method.specs.Building.{Room, SoFar, Filled, Grown, Ended}
 use Rattle.method.proofs.Growing.{made_is_step}
-
--- a row too large ends it
-pub ended_large : {L : Type 0} (kind : Kind L) (new : List Counts) (P : Counts → Type 0) (spare spare' : L) (e : StepFault) → Added kind new P spare (Err e) → Ended kind new spare' (Err e)
-ended_large kind new P spare spare' RowTooLarge large = large
-ended_large kind new P spare spare' (Ledger e) none = absurd none
 
 module _ {L : Type 0} (kind : Kind L) (A : List Flow) (rows : List Counts) (cover : Cover 24 A rows) (asc : Ascending rows) (p : List ℤ) (n : ℕ) (many : n ≡ length rows) (spare : L) (room : Room) (g : Grown kind (SoFar p rows n 0) spare room) where
   is_step : g.made ≡ step p rows
@@ -26,7 +20,7 @@ module _ {L : Type 0} (kind : Kind L) (A : List Flow) (rows : List Counts) (cove
   pub ended_full : (e : LedgerFault) → room ≡ Err e → Ended kind (step p rows) spare (Err (Ledger e))
   ended_full e is =
       let f : Filled kind g.made spare (Err e) = subst (λ (r : Room). Filled kind g.made spare r) is g.filled in
-      (f.0, small, subst (λ (l : List Counts). kind.total < sum_by kind.charge l) is_step f.1)
+      (f.0, small, subst (λ (l : List Counts). kind.TOTAL < sum_by kind.charge l) is_step f.1)
 
   pub ended_ok : room ≡ Ok tt → Ended kind (step p rows) spare (Ok tt)
   ended_ok is =

@@ -1,7 +1,7 @@
 pub mod Outside
 pub mod Sums
+pub mod Arrays
 pub mod Dividing
-pub mod Reading
 pub mod Comparing
 pub mod Placing
 pub mod Covering

@@ -1,7 +1,7 @@
 -- The unit rows, 24 wide, one before another.
 use Rattle.std.proofs.Common.{◌≡◌, ℕ, zero, suc, ◌+◌, ◌<◌, ◌≤◌, ◌≢◌, List, ◌∷◌, length, replicate, Ok, Err, sum_by, Result, sym, refl, ap, ◌∙◌, subst, ⊎_elim, add-one, arith, length-set, get_or-set_other, get_or-set_same, ext_get_or}
 use Rattle.std.proofs.lemmas.List.{get_or-replicate}
-use Rattle.std.proofs.lemmas.List.Sums.{sum_by-cons}
+use Rattle.std.proofs.lemmas.List.Sums.{sum_by-cons, sum_by-insert}
 use Rattle.std.proofs.lemmas.Bool.{cases_eq}
 use Rattle.cycle_theory.specs.Nets.{Counts, at}
 use Rattle.cycle_theory.specs.Method.{delta, unit, units_to}
@@ -10,7 +10,6 @@ use Rattle.ledger.specs.declared.fault.LedgerFault.{LedgerFault}
 use Rattle.ledger.specs.Rows as ledger
 use Rattle.ledger.specs.Calls.{Inserts}
 use Rattle.ledger.proofs.Units.{units_more, units_fit, unit_small, not_refused}
-use Rattle.ledger.proofs.Insertions.{sum_by_inserted}
 use Rattle.method.specs.Stepping.{wide, written}
 use Rattle.method.proofs.Widening.{at_wide, length_wide}
 
@@ -49,7 +48,7 @@ units_sum charge n few (suc m) h =
     let a = sum_by-cons charge (wide (unit n m)) (written (units_to n m)) in
     let r = units_sum charge n few m (omega (arith, h)) in
     let e : charge (ledger.unit m) ≡ charge (wide (unit n m)) = ap charge (unit_wide n m few h) in
-    let s = sum_by_inserted charge (ledger.units m) m (ledger.unit m) in
+    let s = sum_by-insert charge (ledger.units m) m (ledger.unit m) in
     let t : sum_by charge (ledger.units (m + 1)) ≡ sum_by charge (ledger.units (suc m)) = ap (λ (i : ℕ). sum_by charge (ledger.units i)) (add-one m) in
     let u = ap (sum_by charge) (units_more m) in
     omega (arith, a, r, e, s, t, u)

@@ -69,7 +69,7 @@ module _ {L : Type 0} (kind : Kind L) (l l' : L) (k : ℕ) (x : Counts) (asc : A
   here : Position (k + 1) (kind.rows l)
   here = let h = stands.inside in (omega arith, omega (arith, h))
 
-  pub kept_there : (r : Result (Unit {0}) LedgerFault) → Inserts kind.charge kind.total (kind.rows l) (k + 1) x (kind.rows l') r → InPosition kind l x l' r
+  pub kept_there : (r : Result (Unit {0}) LedgerFault) → Inserts kind.charge kind.TOTAL (kind.rows l) (k + 1) x (kind.rows l') r → InPosition kind l x l' r
   kept_there (Ok _) (p, s, fits, is) =
       let e : (k + 1) - 1 ≡ k = omega arith in
       is ∙ ap (λ (n : ℕ). inserted (kind.rows l) n x) e ∙ inserted_there (kind.rows l) x k asc stands new

@@ -1,10 +1,7 @@
 -- What the signed tests and values of the code say of a sum.
-use Rattle.std.proofs.Common.{◌≡◌, ◌<◌, ◌≤◌, false, List, ℤ, pos, negsuc, nat_abs, ◌<ℤ◌, sym, refl, ap, ◌∙◌, subst, arith, w64, SFits, to_z, of_z}
-use lib.Signed.{le_z}
+use Rattle.std.proofs.Common.{◌≡◌, ◌<◌, ◌≤◌, List, ℤ, pos, negsuc, nat_abs, ◌<ℤ◌, sym, ap, ◌∙◌, subst, arith, w64, SFits, to_z, of_z}
 use Rattle.std.proofs.lemmas.Int.{ints, to_z-of_z}
-use Rattle.std.proofs.lemmas.Bool.{leb-false, true≢false}
 use Rattle.cycle_theory.specs.Nets.{Counts, sum}
-use Rattle.cycle_theory.specs.Method.{surplus, deficit}
 use Rattle.cycle_theory.specs.Flows.{flow, gains, losses}
 use Rattle.cycle_theory.proofs.Integers.{sum_said, sub_parts}
 
@@ -15,36 +12,14 @@ gains_sum p x h = subst (λ (z : ℤ). pos 0 <ℤ z) (sym (sum_said p x)) (omega
 pub loses_sum : (p : List ℤ) (x : Counts) → gains (flow p) x < losses (flow p) x → sum p x <ℤ pos 0
 loses_sum p x h = subst (λ (z : ℤ). z <ℤ pos 0) (sym (sum_said p x)) (omega (arith, ints, sub_parts (gains (flow p) x) (losses (flow p) x)))
 
-pub surplus_is : (z : ℤ) → pos 0 <ℤ z → nat_abs z ≡ surplus z
-surplus_is (pos n) h = refl
-surplus_is (negsuc n) h = absurd (let f : ⊥ = omega (arith, ints) in f)
-
-pub deficit_is : (z : ℤ) → z <ℤ pos 0 → nat_abs z ≡ deficit z
-deficit_is (pos n) h = absurd (let f : ⊥ = omega (arith, ints) in f)
-deficit_is (negsuc n) h = refl
-
 -- a sum as the code stores it, and its tests
 module _ (z : ℤ) (bounded : nat_abs z ≤ 25165800000) where
-  pub stored : to_z w64 (of_z w64 z) ≡ z
+  stored : to_z w64 (of_z w64 z) ≡ z
   stored = to_z-of_z w64 z (fits z bounded)
     where
       fits : (x : ℤ) → nat_abs x ≤ 25165800000 → SFits w64 x
       fits (pos n) h = record { sfits = omega (arith, ints) }
       fits (negsuc n) h = record { sfits = omega (arith, ints) }
-
-  pub gaining : le_z (to_z w64 (of_z w64 z)) (pos 0) ≡ false → pos 0 <ℤ z
-  gaining t = above z (subst (λ (x : ℤ). le_z x (pos 0) ≡ false) stored t)
-    where
-      above : (x : ℤ) → le_z x (pos 0) ≡ false → pos 0 <ℤ x
-      above (pos n) f = let h = leb-false n 0 f in omega (arith, ints, h)
-      above (negsuc n) f = absurd (true≢false f)
-
-  pub losing : le_z (pos 0) (to_z w64 (of_z w64 z)) ≡ false → z <ℤ pos 0
-  losing t = below z (subst (λ (x : ℤ). le_z (pos 0) x ≡ false) stored t)
-    where
-      below : (x : ℤ) → le_z (pos 0) x ≡ false → x <ℤ pos 0
-      below (pos n) f = absurd (let h = leb-false 0 n f in let g : ⊥ = omega (arith, h) in g)
-      below (negsuc n) f = omega (arith, ints)
 
   pub balanced : of_z w64 z ≡ 0 → z ≡ pos 0
   balanced e = sym stored ∙ ap (to_z w64) e

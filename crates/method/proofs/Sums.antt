@@ -1,12 +1,14 @@
 -- The place sum: one effect more, and how large it can be.
-use Rattle.std.proofs.Common.{◌≡◌, ℕ, zero, suc, ◌+◌, ◌*◌, ◌^◌, ◌<◌, ◌≤◌, min, false, List, [], ◌∷◌, length, get_or, take, ℤ, pos, negsuc, ◌+ℤ◌, ◌*ℤ◌, neg_ℤ, nat_abs, ◌≤ℤ◌, sym, ap, ◌∙◌, subst, le_of_suc-le-suc, not-suc-le-zero, add-one, arith, length-take, w32, w64, SFits, to_z, of_z}
+use Rattle.std.proofs.Common.{◌≡◌, ℕ, zero, suc, ◌+◌, ◌*◌, ◌^◌, ◌<◌, ◌≤◌, false, List, [], ◌∷◌, length, get_or, take, ℤ, pos, negsuc, ◌+ℤ◌, ◌*ℤ◌, neg_ℤ, nat_abs, ◌≤ℤ◌, refl, sym, ap, ◌∙◌, subst, le_of_suc-le-suc, not-suc-le-zero, add-one, arith, length-take, w32, w64, SFits, to_z, of_z}
 use lib.IntN.{negsuc-*ℤ-pos, *ℤ-zero}
 use Rattle.std.proofs.lemmas.Nat.{mul-le}
-use Rattle.std.proofs.lemmas.List.{get_or-take}
 use Rattle.std.proofs.lemmas.Int.{ints, to_z-of_z}
 use Rattle.std.proofs.lemmas.Bool.{ltb-false}
 use Rattle.cycle_theory.specs.Nets.{sum}
-use Rattle.method.specs.Effects.{outside}
+use Rattle.method.specs.declared.place.Place.{Place}
+use Rattle.method.specs.Effects.{outside, some}
+use Rattle.method.specs.Places.{effects_of}
+use Rattle.method.proofs.Outside.{mild_each}
 
 -- z lies between -b and b
 pub record Between (b : ℕ) (z : ℤ) : Type 0 where
@@ -55,34 +57,28 @@ sum_more (e ∷ p) (c ∷ x) zero h = omega (arith, ints)
 sum_more (e ∷ p) (c ∷ x) (suc j) h = let r = sum_more p x j (le_of_suc-le-suc h) in omega (arith, ints, r)
 
 -- the effects of a place are few, and in range
-module _ (line : List ℤ) (count : ℕ) (few : count ≤ 24) (mild : (j : ℕ) → j < count → outside (get_or line j (pos 0)) ≡ false) (p : List ℤ) (is : p ≡ take count line) where
-  count_long : length p ≡ min count (length line)
-  count_long = ap (λ (q : List ℤ). length q) is ∙ length-take count line
+module _ (place : Place) (p : List ℤ) (is : p ≡ effects_of place) where
+  pub few_effects : length p ≤ 24
+  few_effects = let l = ap (λ (q : List ℤ). length q) is ∙ length-take place.effects.count place.effects.slots in omega (arith, l, place.effects.few)
 
-  pub front_few : length p ≤ 24
-  front_few = let l = count_long in omega (arith, l)
-
-  pub front_mild : (j : ℕ) → j < length p → outside (get_or p j (pos 0)) ≡ false
-  front_mild j h =
-      let l = count_long in
-      let k : j < count = omega (arith, l) in
-      ap (λ (q : List ℤ). outside (get_or q j (pos 0))) is ∙ ap outside (get_or-take count line j (pos 0) k) ∙ mild j k
+  mild_effects : (j : ℕ) → j < length p → outside (get_or p j (pos 0)) ≡ false
+  mild_effects = mild_each p (subst (λ (q : List ℤ). some outside q ≡ false) (sym is) place.mild)
 
 -- one turn of the loop over the effects
-module _ (p : List ℤ) (x : List ℕ) (j : ℕ) (few : length p ≤ 24) (here : j < length p) (mild : (i : ℕ) → i < length p → outside (get_or p i (pos 0)) ≡ false) (small : get_or x j 0 < 2 ^ 32) where
+module _ (place : Place) (p : List ℤ) (x : List ℕ) (j : ℕ) (is : p ≡ effects_of place) (here : j < length p) (small : get_or x j 0 < 2 ^ 32) where
   abbrev factors : ℤ
   factors = to_z w64 (of_z w64 (to_z w32 (of_z w32 (get_or p j (pos 0))))) *ℤ to_z w64 (get_or x j 0)
 
   is_product : factors ≡ get_or p j (pos 0) *ℤ pos (get_or x j 0)
-  is_product = cast (get_or p j (pos 0)) (get_or x j 0) (mild j here) small
+  is_product = cast (get_or p j (pos 0)) (get_or x j 0) (mild_effects place p is j here) small
 
   product_here : Between (1000 * 4294967295) (get_or p j (pos 0) *ℤ pos (get_or x j 0))
-  product_here = product_between 4294967295 (get_or p j (pos 0)) (get_or x j 0) (mild j here) (omega arith)
+  product_here = product_between 4294967295 (get_or p j (pos 0)) (get_or x j 0) (mild_effects place p is j here) (omega arith)
 
   pub product_fits : SFits w64 factors
   product_fits = subst (SFits w64) (sym is_product) (between_fits (1000 * 4294967295) _ product_here (omega arith))
 
-  module _ (s : ℤ) (is : s ≡ sum (take j p) x) (bound : Between (4294967295000 * j) s) where
+  module _ (s : ℤ) (so_far : s ≡ sum (take j p) x) (bound : Between (4294967295000 * j) s) where
     total_is : s +ℤ to_z w64 (of_z w64 factors) ≡ s +ℤ get_or p j (pos 0) *ℤ pos (get_or x j 0)
     total_is = ap (λ (z : ℤ). s +ℤ z) (to_z-of_z w64 factors product_fits ∙ is_product)
 
@@ -93,12 +89,12 @@ module _ (p : List ℤ) (x : List ℕ) (j : ℕ) (few : length p ≤ 24) (here :
         subst (λ (b : ℕ). Between b (s +ℤ to_z w64 (of_z w64 factors))) e (subst (Between (4294967295000 * j + 1000 * 4294967295)) (sym total_is) w)
 
     pub total_fits : SFits w64 (s +ℤ to_z w64 (of_z w64 factors))
-    total_fits = between_fits (4294967295000 * (j + 1)) _ between_more (omega arith)
+    total_fits = let few = few_effects place p is in between_fits (4294967295000 * (j + 1)) _ between_more (omega (arith, few))
 
     pub total_more : (to_z w64 (of_z w64 (s +ℤ to_z w64 (of_z w64 factors))) ≡ sum (take (j + 1) p) x) × Between (4294967295000 * (j + 1)) (to_z w64 (of_z w64 (s +ℤ to_z w64 (of_z w64 factors))))
     total_more =
         let e = to_z-of_z w64 (s +ℤ to_z w64 (of_z w64 factors)) total_fits in (
-          e ∙ total_is ∙ ap (λ (z : ℤ). z +ℤ get_or p j (pos 0) *ℤ pos (get_or x j 0)) is ∙ sym (sum_more p x j here) ∙ ap (λ (k : ℕ). sum (take k p) x) (sym (add-one j)),
+          e ∙ total_is ∙ ap (λ (z : ℤ). z +ℤ get_or p j (pos 0) *ℤ pos (get_or x j 0)) so_far ∙ sym (sum_more p x j here) ∙ ap (λ (k : ℕ). sum (take k p) x) (sym (add-one j)),
           subst (Between (4294967295000 * (j + 1))) (sym e) between_more,
         )
 
@@ -117,5 +113,9 @@ between_abs : (b : ℕ) (z : ℤ) → Between b z → nat_abs z ≤ b
 between_abs b (pos n) w = let h = w.high in omega (arith, ints)
 between_abs b (negsuc n) w = let h = w.low in omega (arith, ints)
 
-pub sum_bounded : (p : List ℤ) (x : List ℕ) → length p ≤ 24 → ((j : ℕ) → j < length p → outside (get_or p j (pos 0)) ≡ false) → ((j : ℕ) → j < 24 → get_or x j 0 ≤ 1048575) → nat_abs (sum p x) ≤ 25165800000
-sum_bounded p x few mild small = let h = between_abs (1048575000 * length p) (sum p x) (small_between p x mild (λ j h. small j (omega arith))) in omega (arith, h)
+pub sum_bounded : (place : Place) (x : List ℕ) → ((j : ℕ) → j < 24 → get_or x j 0 ≤ 1048575) → nat_abs (sum (effects_of place) x) ≤ 25165800000
+sum_bounded place x small =
+    let p = effects_of place in
+    let few = few_effects place p refl in
+    let h = between_abs (1048575000 * length p) (sum p x) (small_between p x (mild_effects place p refl) (λ j l. small j (omega (arith, l, few)))) in
+    omega (arith, h, few)

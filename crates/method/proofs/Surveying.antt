@@ -1,24 +1,44 @@
 -- One row more in the survey.
-use Rattle.std.proofs.Common.{◌≡◌, ℕ, ◌+◌, ◌<◌, ◌≤◌, ◌≢◌, List, length, get_or, set, ℤ, pos, nat_abs, sym, ap, ◌∙◌, subst, arith, get_or-set_other, get_or-set_same, below_more}
-use Rattle.cycle_theory.specs.Nets.{Counts, sum}
-use Rattle.ledger.specs.Rows.{Mask}
-use Rattle.method.specs.Ascents.{row_at}
-use Rattle.method.specs.Surveys.{Bounded, Told}
+use Rattle.std.proofs.Common.{◌≡◌, ℕ, ◌-◌, ◌<◌, ◌≤◌, List, [], ◌∷◌, ◌++◌, length, get_or, ℤ, Ok, Err, Result, refl, sym, ap, ◌∙◌, subst, ⊎_elim, arith, length-append}
+use Rattle.std.specs.List.{All}
+use Rattle.std.proofs.lemmas.Bool.{cases_lt}
+use Rattle.std.proofs.lemmas.List.{get_or-append_right, get_or_append_left}
+use Rattle.inline_list.specs.declared.Full.{Full}
+use Rattle.inline_list.specs.Items.{Pushed}
+use Rattle.cycle_theory.specs.Nets.{Counts}
+use Rattle.method.specs.declared.reading.Reading.{Reading}
+use Rattle.method.specs.Surveys.{Told, Surveyed}
 
-pub bounded_more : (sums : List ℤ) (k : ℕ) (v : ℤ) → k < length sums → Bounded sums k → nat_abs v ≤ 25165800000 → Bounded (set sums k v) (k + 1)
-bounded_more sums k v h b small = below_more (λ i. nat_abs (get_or (set sums k v) i (pos 0)) ≤ 25165800000) k
-    (λ i l. let ne : i ≢ k = omega arith in
-    subst (λ (z : ℤ). nat_abs z ≤ 25165800000) (sym (get_or-set_other sums k i v (pos 0) ne)) (b i l))
-    (subst (λ (z : ℤ). nat_abs z ≤ 25165800000) (sym (get_or-set_same sums k v (pos 0) h)) small)
+-- the first k rows are read
+pub record Front (p : List ℤ) (rows : List Counts) (s : List Reading) : Type 0 where
+  pub in_turn : (k : ℕ) (d : Reading) → k < length s → (get_or s k d).row ≡ k
+  pub told : All (Told p rows) s
 
-pub told_more : (p : List ℤ) (rows : List Counts) (k : ℕ) (sums : List ℤ) (masks : List ℕ) (row : Counts) (v : ℤ) (m : ℕ) →
-    k < length sums → k < length masks → Told p rows k sums masks → row ≡ row_at rows k → v ≡ sum p row → Mask row m →
-    Told p rows (k + 1) (set sums k v) (set masks k m)
-told_more p rows k sums masks row v m hs hm s is val mask = record {
-  sums_are = below_more (λ i. get_or (set sums k v) i (pos 0) ≡ sum p (row_at rows i)) k
-      (λ i l. let ne : i ≢ k = omega arith in get_or-set_other sums k i v (pos 0) ne ∙ s.sums_are i l)
-      (get_or-set_same sums k v (pos 0) hs ∙ val ∙ ap (λ (x : Counts). sum p x) is);
-  masks_are = below_more (λ i. Mask (row_at rows i) (get_or (set masks k m) i 0)) k
-      (λ i l. let ne : i ≢ k = omega arith in subst (λ (x : ℕ). Mask (row_at rows i) x) (sym (get_or-set_other masks k i m 0 ne)) (s.masks_are i l))
-      (subst (λ (x : ℕ). Mask (row_at rows k) x) (sym (get_or-set_same masks k m 0 hm)) (subst (λ (x : Counts). Mask x m) is mask));
+-- there is room
+pub pushed_there : (s t : List Reading) (r : Reading) (answer : Result (Unit {0}) Full) → length s < 1024 → Pushed 1024 s r answer t → t ≡ s ++ r ∷ []
+pushed_there s t r (Ok _) room pushed = pushed.1
+pushed_there s t r (Err _) room pushed = absurd (let e = pushed.0 in omega (arith, e, room))
+
+module _ (s : List Reading) (r : Reading) (P : ℕ → Reading → Type 0) (before : (k : ℕ) (d : Reading) → k < length s → P k (get_or s k d)) (last : P (length s) r) where
+  each_more : (k : ℕ) (d : Reading) → k < length (s ++ r ∷ []) → P k (get_or (s ++ r ∷ []) k d)
+  each_more k d l = ⊎_elim
+      (λ (h : k < length s). subst (P k) (sym (get_or_append_left s (r ∷ []) d k h)) (before k d h))
+      (λ (h : length s ≤ k). let e : length s ≡ k = omega (arith, l, h, length-append s (r ∷ [])) in
+      let first : k - length s ≡ 0 = omega (arith, e) in
+      let here : get_or (s ++ r ∷ []) k d ≡ r = get_or-append_right s (r ∷ []) (length s) k d refl h ∙ ap (λ n. get_or (r ∷ []) n d) first in
+      subst (P k) (sym here) (subst (λ n. P n r) e last))
+      (cases_lt k (length s))
+
+pub front_more : (p : List ℤ) (rows : List Counts) (s : List Reading) (r : Reading) → Front p rows s → r.row ≡ length s → Told p rows r → Front p rows (s ++ r ∷ [])
+front_more p rows s r front is told = record {
+  in_turn = each_more s r (λ k x. x.row ≡ k) front.in_turn is;
+  told = each_more s r (λ k x. Told p rows x) front.told told;
 }
+
+-- the reading at k is that of row k
+module _ (p : List ℤ) (rows : List Counts) (s : List Reading) (k : ℕ) (r : Reading) (surveyed : Surveyed p rows s) (inside : k < length s) (is : r ≡ get_or s k r) where
+  pub told_here : Told p rows r
+  told_here = subst (Told p rows) (sym is) (surveyed.told k r inside)
+
+  pub row_here : r.row ≡ k
+  row_here = ap (λ (x : Reading). x.row) is ∙ surveyed.in_turn k r inside

@@ -11,7 +11,6 @@ use Rattle.cycle_theory.specs.Method.{insert}
 use Rattle.ledger.specs.declared.Ledger.{Ghosts as Kind}
 use Rattle.ledger.specs.declared.fault.LedgerFault.{LedgerFault}
 use Rattle.ledger.specs.declared.fault.LedgerFault.TheVariants.{Full}
-use Rattle.ledger.specs.Rows.{Small}
 
 abbrev pub row_at : List Counts → ℕ → Counts
 row_at rows k = slice_index_or rows k []
@@ -26,8 +25,8 @@ Finds kind l x k = kind.orderly l → Ascending (kind.rows l) → Stands (kind.r
 
 abbrev pub InPosition : {L : Type 0} → Kind L → L → Counts → L → Result (Unit {0}) LedgerFault → Type 0
 InPosition kind l x l' (Ok _) = kind.rows l' ≡ insert x (kind.rows l)
-InPosition kind l x l' (Err e) = (e ≡ Full) × (kind.total < sum_by kind.charge (kind.rows l) + kind.charge x) × (kind.rows l' ≡ kind.rows l)
+InPosition kind l x l' (Err e) = (e ≡ Full) × (kind.TOTAL < sum_by kind.charge (kind.rows l) + kind.charge x) × (kind.rows l' ≡ kind.rows l)
 
 pub record Puts {L : Type 0} (kind : Kind L) (l : L) (x : Counts) (l' : L) (r : Result (Unit {0}) LedgerFault) : Type 0 where
   pub order : kind.orderly l → kind.orderly l'
-  pub put : kind.orderly l → Ascending (kind.rows l) → Small x → (Mem x (kind.rows l) → ⊥) → InPosition kind l x l' r
+  pub put : kind.orderly l → Ascending (kind.rows l) → (Mem x (kind.rows l) → ⊥) → InPosition kind l x l' r

@@ -4,9 +4,8 @@
 --
 --   Room                        what the spare ledger answered: the rows made so far fit, or its refusal
 --   Ready kind p A current s    the current ledger holds the rows of places with the flows A, ascending, and s is their survey on p
---   Surveyed p rows s           s tells the sum on p, and the steps in use, of each row
 --   Adjacent p rows a b         p gains by row a and loses by row b, and no third row uses only steps of the two
---   PairMade kind c s a b r     r is the row of the adjacent rows a and b of the current ledger c, or none where it is too large
+--   PairMade kind c a b r       r is the row of the adjacent rows that a and b read of the current ledger c, or none where it is too large
 --   Even p rows k z             z is one of the first k rows, and has the sum 0
 --   Pair p rows a b z           z is the row of the adjacent rows a and b
 --   SoFar p rows a b z          z is a row with the sum 0, or the row of a pair that comes before (a, b)
@@ -25,22 +24,19 @@ use Rattle.cycle_theory.specs.Flows.{Flow, Cover}
 use Rattle.ledger.specs.declared.Ledger.{Ghosts as Kind}
 use Rattle.ledger.specs.declared.fault.LedgerFault.{LedgerFault}
 use Rattle.ledger.specs.declared.fault.LedgerFault.TheVariants.{Full}
-use Rattle.ledger.specs.declared.row.Row.{Row}
 use Rattle.ledger.specs.Rows.{Small}
-use Rattle.method.specs.declared.survey.Survey.{Survey}
+use Rattle.method.specs.declared.held.Held.{Held}
+use Rattle.method.specs.declared.reading.Reading.{Reading}
 use Rattle.method.specs.declared.fault.StepFault.{StepFault}
 use Rattle.method.specs.declared.fault.StepFault.TheVariants.{RowTooLarge, Ledger}
 use Rattle.method.specs.Fitting.{Fitted}
 use Rattle.method.specs.Ascents.{row_at}
-use Rattle.method.specs.Surveys.{Tells, Third}
+use Rattle.method.specs.Surveys.{Told, Surveyed, Third}
 
 abbrev pub Room : Type 0
 Room = Result (Unit {0}) LedgerFault
 
-abbrev pub Surveyed : List ℤ → List Counts → Survey → Type 0
-Surveyed p rows s = Tells p rows s.count s.sums s.masks
-
-pub record Ready {L : Type 0} (kind : Kind L) (p : List ℤ) (A : List Flow) (current : L) (s : Survey) : Type 0 where
+pub record Ready {L : Type 0} (kind : Kind L) (p : List ℤ) (A : List Flow) (current : L) (s : List Reading) : Type 0 where
   pub order : kind.orderly current
   pub cover : Cover 24 A (kind.rows current)
   pub ascending : Ascending (kind.rows current)
@@ -51,10 +47,10 @@ pub record Adjacent (p : List ℤ) (rows : List Counts) (a b : ℕ) : Type 0 whe
   pub loses : sum p (row_at rows b) <ℤ pos 0
   pub alone : Third rows a b → ⊥
 
-abbrev pub PairMade : {L : Type 0} → Kind L → L → Survey → ℕ → ℕ → Option Row → Type 0
-PairMade kind current s a b r =
-    (p : List ℤ) (A : List Flow) → Ready kind p A current s → Adjacent p (kind.rows current) a b →
-    Fitted (divided (combined p (row_at (kind.rows current) a) (row_at (kind.rows current) b))) r
+abbrev pub PairMade : {L : Type 0} → Kind L → L → Reading → Reading → Option Held → Type 0
+PairMade kind current a b r =
+    (p : List ℤ) → kind.orderly current → Told p (kind.rows current) a → Told p (kind.rows current) b → Adjacent p (kind.rows current) a.row b.row →
+    Fitted (divided (combined p (row_at (kind.rows current) a.row) (row_at (kind.rows current) b.row))) r
 
 abbrev pub Even : List ℤ → List Counts → ℕ → Counts → Type 0
 Even p rows k z = (i : ℕ) × (i < k) × (i < length rows) × (sum p (row_at rows i) ≡ pos 0) × (z ≡ row_at rows i)
@@ -74,11 +70,11 @@ SoFar p rows a b z = Even p rows (length rows) z ⊎ ((i : ℕ) × (j : ℕ) × 
 
 abbrev pub Filled : {L : Type 0} → Kind L → List Counts → L → Room → Type 0
 Filled kind made spare (Ok _) = kind.rows spare ≡ made
-Filled kind made spare (Err e) = (e ≡ Full) × (kind.total < sum_by kind.charge made)
+Filled kind made spare (Err e) = (e ≡ Full) × (kind.TOTAL < sum_by kind.charge made)
 
 pub record RowAdded {L : Type 0} (kind : Kind L) (spare : L) (x : Counts) (room : Room) (spare' : L) (room' : Room) : Type 0 where
   pub order : kind.orderly spare → kind.orderly spare'
-  pub filled : (made : List Counts) → kind.orderly spare → Ascending made → Small x → (Mem x made → ⊥) → Filled kind made spare room → Filled kind (insert x made) spare' room'
+  pub filled : (made : List Counts) → kind.orderly spare → Ascending made → (Mem x made → ⊥) → Filled kind made spare room → Filled kind (insert x made) spare' room'
 
 -- `made` goes on growing where the ledger has no room any more
 pub record Grown {L : Type 0} (kind : Kind L) (P : Counts → Type 0) (spare : L) (room : Room) : Type 0 where
@@ -97,19 +93,19 @@ Added kind new P spare (Ok room) = Grown kind P spare room
 Added kind new P spare (Err RowTooLarge) = Large new
 Added kind new P spare (Err (Ledger e)) = ⊥
 
-abbrev pub EvenAdded : {L : Type 0} → Kind L → L → Survey → L → L → Room → Type 0
+abbrev pub EvenAdded : {L : Type 0} → Kind L → L → List Reading → L → L → Room → Type 0
 EvenAdded kind current s spare spare' room =
     (p : List ℤ) (A : List Flow) → Ready kind p A current s → kind.orderly spare → kind.rows spare ≡ [] → Grown kind (SoFar p (kind.rows current) 0 0) spare' room
 
-abbrev pub PairsAdded : {L : Type 0} → Kind L → L → Survey → ℕ → L → Room → L → Result Room StepFault → Type 0
+abbrev pub PairsAdded : {L : Type 0} → Kind L → L → List Reading → Reading → L → Room → L → Result Room StepFault → Type 0
 PairsAdded kind current s a spare room spare' r =
-    (p : List ℤ) (A : List Flow) → Ready kind p A current s → Grown kind (SoFar p (kind.rows current) a 0) spare room →
-    Added kind (step p (kind.rows current)) (SoFar p (kind.rows current) (a + 1) 0) spare' r
+    (p : List ℤ) (A : List Flow) → Ready kind p A current s → Told p (kind.rows current) a → Grown kind (SoFar p (kind.rows current) a.row 0) spare room →
+    Added kind (step p (kind.rows current)) (SoFar p (kind.rows current) (a.row + 1) 0) spare' r
 
 abbrev pub Ended : {L : Type 0} → Kind L → List Counts → L → Result (Unit {0}) StepFault → Type 0
 Ended kind new spare (Ok _) = (kind.orderly spare) × ((w : Counts) → Mem w new → Small w) × (kind.rows spare ≡ new)
 Ended kind new spare (Err RowTooLarge) = Large new
-Ended kind new spare (Err (Ledger e)) = (e ≡ Full) × ((w : Counts) → Mem w new → Small w) × (kind.total < sum_by kind.charge new)
+Ended kind new spare (Err (Ledger e)) = (e ≡ Full) × ((w : Counts) → Mem w new → Small w) × (kind.TOTAL < sum_by kind.charge new)
 
 abbrev pub Built : {L : Type 0} → Kind L → List ℤ → L → L → L → Result (Unit {0}) StepFault → Type 0
 Built kind p current spare spare' r =

@@ -27,7 +27,7 @@ abbrev pub some_large : List (List ℕ) → Bool
 some_large rows = some (some (nat_lt 1048575)) rows
 
 abbrev pub overfull : {L : Type 0} → Kind L → List (List ℕ) → Bool
-overfull kind rows = nat_lt kind.total (sum_by kind.charge (written rows))
+overfull kind rows = nat_lt kind.TOTAL (sum_by kind.charge (written rows))
 
 abbrev pub step_answer : {L : Type 0} → Kind L → List (List ℕ) → Result (Unit {0}) StepFault
 step_answer kind new = cond (some_large new) (Err RowTooLarge) (cond (overfull kind new) (Err (Ledger Full)) (Ok tt))

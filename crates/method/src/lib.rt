@@ -11,6 +11,7 @@ mod next;
 mod order;
 mod pairs;
 mod place;
+mod reading;
 mod survey;
 mod third;
 

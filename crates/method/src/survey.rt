@@ -1,32 +1,42 @@
-// What one offer learns of the current rows: each is read once, and its sum and its steps in use are kept.
-ghost use Rattle.std.specs.Prelude.{◌≤◌};
+// The survey of one offer: each current row is read once.
+ghost use Rattle.std.specs.Prelude.{◌≡◌, ◌<◌, length};
+ghost use Rattle.inline_list.specs.Items.{items};
 ghost use Rattle.method.specs.Places.{effects_of};
-ghost use Rattle.method.specs.Surveys.{Bounded, Tells};
+ghost use Rattle.method.specs.Surveys.{Told, Surveyed};
 
 use crate::Place;
 use crate::held::{row_at, row_count};
+use crate::reading::Reading;
+use inline_list::InlineList;
 use ledger::Ledger;
 
-// The sum on a place, and the steps in use, of each row of a ledger.
-#[derive(Drop)]
-pub(crate) struct Survey {
-    pub(crate) count: usize,
-    pub(crate) sums: [i64; 1024],
-    pub(crate) masks: [u32; 1024],
-    ghost few: { count ≤ 1024 },
-    ghost bounded: { Bounded sums count },
+// The readings of all rows of a ledger, in their order.
+pub(crate) fn survey_of<L: Ledger>(rows: &L, place: &Place) -> InlineList<Reading, 1024>
+    ensures { L.Ledger.orderly rows.now → Surveyed (effects_of place.now) (L.Ledger.rows rows.now) (items result) }
+{
+    let mut survey = InlineList::new(Reading {
+        row: 0,
+        sum: 0,
+        mask: 0,
+    });
+    // A ledger lends no slice of its rows: they go by their index.
+    for k in 0..row_count(rows) {
+        // There is room, so that this is not refused.
+        let _ = survey.push(reading_of(rows, place, k));
+    }
+    survey
 }
 
-pub(crate) fn survey_of<L: Ledger>(rows: &L, place: &Place) -> Survey
-    ensures { L.Ledger.orderly rows.now → Tells (effects_of place.now) (L.Ledger.rows rows.now) result.count result.sums result.masks }
+// What is learnt of row k.
+fn reading_of<L: Ledger>(rows: &L, place: &Place, k: usize) -> Reading
+    requires { k < 1024 }
+    ensures row { result.row ≡ k }
+    ensures told { L.Ledger.orderly rows.now → k < length (L.Ledger.rows rows.now) → Told (effects_of place.now) (L.Ledger.rows rows.now) result }
 {
-    let count = row_count(rows);
-    let mut sums = [0i64; 1024];
-    let mut masks = [0u32; 1024];
-    for k in 0..count {
-        let row = row_at(rows, k);
-        sums[k] = place.sum(&row);
-        masks[k] = row.used();
+    let row = row_at(rows, k).row;
+    Reading {
+        row: k,
+        sum: place.sum(&row),
+        mask: row.used(),
     }
-    Survey { count, sums, masks }
 }

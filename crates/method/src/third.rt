@@ -1,30 +1,20 @@
 // The third-row test, on steps in use alone: a pair gives a new row where no third row uses only steps of the pair.
-ghost use Rattle.std.specs.Prelude.{◌≡◌, ℕ, ◌<◌, List, length, ℤ, Decides, bit_or};
-ghost use Rattle.cycle_theory.specs.Theorems.{WithinPair};
-ghost use Rattle.ledger.specs.Rows.{Mask};
-ghost use Rattle.method.specs.Surveys.{Third};
-ghost use Rattle.method.specs.Building.{Surveyed};
+ghost use Rattle.std.specs.Prelude.{◌≡◌, ℕ, ◌-◌, List, ℤ, Decides, ◌==◌, bit_and};
+ghost use Rattle.method.specs.Surveys.{Told, Surveyed, Third};
 
-use crate::survey::Survey;
+use crate::reading::Reading;
 
 // Whether a third row uses only steps which rows a and b use between them.
-pub(crate) fn third_row(survey: &Survey, a: usize, b: usize) -> bool
-    requires first { a < survey.now.count }
-    requires second { b < survey.now.count }
-    ensures { (p : List ℤ) (rows : List (List ℕ)) → Surveyed p rows survey.now → Decides result (Third rows a b) }
+pub(crate) fn third_row(survey: &[Reading], a: &Reading, b: &Reading) -> bool
+    ensures { (p : List ℤ) (rows : List (List ℕ)) → Surveyed p rows survey.now → Told p rows a.now → Told p rows b.now → Decides result (Third rows a.now.row b.now.row) }
 {
-    let pair = survey.masks[a] | survey.masks[b];
-    for k in 0..survey.count {
-        if k != a && k != b && uses_only(survey.masks[k], pair) {
-            return true;
-        }
-    }
-    false
+    let pair = a.mask | b.mask;
+    survey.iter().any(|c| c.row != a.row && c.row != b.row && uses_only(c.mask, pair))
 }
 
 // Whether a row uses only steps of a pair: masks of the row, and of the two together.
 fn uses_only(third: u32, pair: u32) -> bool
-    ensures { (w u v : List ℕ) (x y : ℕ) → length w ≡ 24 → Mask w third → Mask u x → Mask v y → pair ≡ bit_or x y → Decides result (WithinPair w u v) }
+    ensures { result ≡ (bit_and third (4294967295 - pair) == 0) }
 {
     third & !pair == 0
 }

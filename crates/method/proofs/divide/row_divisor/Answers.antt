@@ -1,11 +1,11 @@
-use Rattle.std.proofs.Common.{sym, ap, ◌∙◌, arith}
-use Rattle.std.proofs.lemmas.List.{drop_all}
-use Rattle.cycle_theory.specs.Method.{divisor}
-use Rattle.method.proofs.Dividing.{divisor_more}
+use Rattle.std.proofs.Common.{◌≡◌, reverse, ◌∙◌, rules}
+use Rattle.std.specs.List.{fold}
+use Rattle.std.proofs.iter.runs.Made.{chains}
+use Rattle.cycle_theory.specs.Method.{gcd}
+use Rattle.method.proofs.Dividing.{divisor_folded}
 use Rattle.method.proofs.divide.row_divisor.Goals as goal
 
-pub loop-j-init : goal.loop-j-init
-loop-j-init c = sym (ap divisor (drop_all 24 c.args.counts.now (omega arith)))
-
-pub loop-j-preserved : goal.loop-j-preserved
-loop-j-preserved c = c.common_divisor-d.ensures ∙ divisor_more c.args.counts.now c.loop-j.j c.loop-j.d c.loop-j-test.true (omega arith) c.loop-j.invariant
+pub returns : goal.returns
+returns c =
+    let folded : c.fold.result ≡ fold (λ d n. gcd n d) 0 (reverse c.args.counts.now) = search (rules, chains) in
+    folded ∙ divisor_folded c.args.counts.now

@@ -1,7 +1,5 @@
-use Rattle.std.proofs.Common.{◌≡◌, ℕ, min, List, ap, ◌∙◌, subst, arith}
-use Rattle.cycle_theory.specs.Method.{units_to}
+use Rattle.std.proofs.Common.{ℕ, min, List, subst, arith}
 use Rattle.ledger.specs.Calls.{Inserts}
-use Rattle.method.specs.Stepping.{written}
 use Rattle.method.proofs.Opening.{unit_more}
 use Rattle.method.proofs.first.first_rows.Goals as goal
 
@@ -12,15 +10,6 @@ loop-step-preserved g c =
     let lt = c.loop-step-test.true in
     let order = c.loop-step.invariant.0 in (
       c.insert.ensures.order order,
-      unit_more g.L.Ledger.charge g.L.Ledger.total n c.loop-step.step (omega arith) (omega (arith, is, lt)) g.met.L.Ledger.first _ _ c.loop-step.invariant.1 _
-          (subst (λ (row : List ℕ). Inserts g.L.Ledger.charge g.L.Ledger.total (g.L.Ledger.rows c.loop-step.rows) 1 row (g.L.Ledger.rows c.insert.new.self) c.insert.result) c.unit.ensures (c.insert.ensures.answer order)),
+      unit_more g.L.Ledger.charge g.L.Ledger.TOTAL n c.loop-step.step (omega arith) (omega (arith, is, lt)) g.met.L.Ledger.first _ _ c.loop-step.invariant.1 _
+          (subst (λ (row : List ℕ). Inserts g.L.Ledger.charge g.L.Ledger.TOTAL (g.L.Ledger.rows c.loop-step.rows) 1 row (g.L.Ledger.rows c.insert.new.self) c.insert.result) c.unit.ensures (c.insert.ensures.answer order)),
     )
-
-pub returns : goal.returns
-returns g c =
-    let n = min c.args.n 24 in
-    let e : c.loop-step.step ≡ n = let is = c.min-step-end.ensures in let l = c.loop-step-test.false in let k = c.loop-step.auto.step-end in omega (arith, is, l, k) in
-    record {
-      order = c.loop-step.invariant.0;
-      held = c.loop-step.invariant.1 ∙ ap (λ (i : ℕ). written (units_to n i)) e;
-    }

@@ -15,7 +15,7 @@ loop-low-preserved-then-comes_before g c =
           let i = c.loop-low.invariant.2 o asc in
           let h = i.0 in
           let inside : mid < length rows = omega (arith, lt, h) in
-          (i.0, turn_right rows c.args.row.now.counts _ mid asc inside (c.row_at.ensures.is o inside) (sym c.if-comes_before.ensures), i.2),
+          (i.0, turn_right rows c.args.row.now.counts _ mid asc inside (c.row_at.ensures o inside) (sym c.if-comes_before.ensures), i.2),
     )
 
 pub loop-low-preserved : goal.loop-low-preserved
@@ -32,5 +32,5 @@ loop-low-preserved g c =
           let i = c.loop-low.invariant.2 o asc in
           let h = i.0 in
           let inside : mid < length rows = omega (arith, lt, h) in
-          (omega (arith, inside), i.1, turn_left rows c.args.row.now.counts _ mid asc inside (c.row_at.ensures.is o inside) (sym c.if-comes_before.ensures)),
+          (omega (arith, inside), i.1, turn_left rows c.args.row.now.counts _ mid asc inside (c.row_at.ensures o inside) (sym c.if-comes_before.ensures)),
     )
