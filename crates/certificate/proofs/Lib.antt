@@ -1,7 +1,7 @@
-pub mod Divisors
 pub mod LeastSoFar
-pub mod Filling
-pub mod Shares
-pub mod Rounds
+pub mod Tests
+pub mod Multiplying
+pub mod Leaving
 pub mod Coefficients
+pub mod Rounds
 pub mod Passing

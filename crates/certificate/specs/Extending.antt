@@ -1,36 +1,43 @@
 -- What putting one row more into a certificate gives; only inner functions' contracts cite this file.
 --
 --   Empty c                the certificate that the walk begins with: the multiplier 1 and no row
---   times p cs             every number multiplied by p
---   Scaled cs count p r    what multiplying the first numbers by p answers
---   in_limit s p c         whether s and p times each number of the certificate are within the limit
+--   share_of k s           the coefficient s of the row k
+--   times p shares         every coefficient multiplied by p
+--   all_small shares       whether every coefficient is within the limit
+--   Scaled p c r           what multiplying the numbers of c by p answers
 --   Grown k s p c d        d has p times the numbers of c, and s for the row k besides
 --   Extended k s p c r     what multiplying by p and adding s for the row k answers
-use Rattle.std.specs.Prelude.{◌≡◌, ℕ, ◌+◌, ◌*◌, Bool, true, false, ◌&&◌, List, [], ◌∷◌, ◌++◌, map, length, take, Some, None, Option, nat_le}
+use Rattle.std.specs.Prelude.{◌≡◌, ℕ, ◌*◌, ◌<◌, ◌≤◌, Bool, true, false, ◌⊎◌, List, [], ◌∷◌, ◌++◌, map, length, Some, None, Option}
 use Rattle.cycle_theory.specs.Walk.{most, small}
+use Rattle.inline_list.specs.Items.{items}
 use Rattle.certificate.specs.declared.certificate.Certificate.{Certificate}
-use Rattle.certificate.specs.Shares.{rows_of, shares_of}
+use Rattle.certificate.specs.declared.certificate.Share.{Share}
 
 pub record Empty (c : Certificate) : Type 0 where
   pub multiplier : c.multiplier ≡ 1
-  pub count : c.count ≡ 0
+  pub shares : items c.shares ≡ []
 
-abbrev pub times : ℕ → List ℕ → List ℕ
-times p cs = map (λ c. p * c) cs
+abbrev pub share_of : ℕ → ℕ → Share
+share_of k s = record { row = k; coefficient = s }
 
-abbrev pub Scaled : List ℕ → ℕ → ℕ → Option (List ℕ) → Type 0
-Scaled cs count p None = small (times p (take count cs)) ≡ false
-Scaled cs count p (Some all) = (small (times p (take count cs)) ≡ true) × (take count all ≡ times p (take count cs)) × (length all ≡ 24)
+abbrev pub times : ℕ → List Share → List Share
+times p shares = map (λ s. share_of s.row (p * s.coefficient)) shares
 
-abbrev pub in_limit : ℕ → ℕ → Certificate → Bool
-in_limit s p c = nat_le (p * c.multiplier) most && (nat_le s most && small (times p (shares_of c)))
+abbrev pub all_small : List Share → Bool
+all_small shares = small (map (λ s. s.coefficient) shares)
+
+abbrev pub Scaled : ℕ → Certificate → Option Certificate → Type 0
+Scaled p c None = (most < p * c.multiplier) ⊎ (all_small (times p (items c.shares)) ≡ false)
+Scaled p c (Some d) =
+    (p * c.multiplier ≤ most) × (all_small (times p (items c.shares)) ≡ true) × (d.multiplier ≡ p * c.multiplier) × (items d.shares ≡ times p (items c.shares))
 
 pub record Grown (k s p : ℕ) (c d : Certificate) : Type 0 where
+  pub low : p * c.multiplier ≤ most
+  pub low_coefficients : all_small (times p (items c.shares)) ≡ true
+  pub low_new : s ≤ most
   pub multiplier : d.multiplier ≡ p * c.multiplier
-  pub count : d.count ≡ c.count + 1
-  pub rows : rows_of d ≡ rows_of c ++ (k ∷ [])
-  pub shares : shares_of d ≡ times p (shares_of c) ++ (s ∷ [])
+  pub shares : items d.shares ≡ times p (items c.shares) ++ share_of k s ∷ []
 
 abbrev pub Extended : ℕ → ℕ → ℕ → Certificate → Option Certificate → Type 0
-Extended k s p c None = in_limit s p c ≡ false
-Extended k s p c (Some d) = (in_limit s p c ≡ true) × Grown k s p c d
+Extended k s p c None = Scaled p c None ⊎ ((most < s) ⊎ (length (items c.shares) ≡ 24))
+Extended k s p c (Some d) = Grown k s p c d

@@ -1,12 +1,11 @@
 // The certificate of a walk that begins, and of one that takes a row more.
-ghost use Rattle.std.specs.Prelude.{◌<◌, ◌≤◌};
-ghost use Rattle.certificate.specs.Extending.{Scaled, Extended, Empty};
+ghost use Rattle.certificate.specs.Extending.{Empty, Scaled, Extended};
 
 use crate::Certificate;
-use crate::ratio::{Ratio, product};
-
-// No number of a certificate is above this.
-pub(crate) const MOST: u64 = 2_147_483_647;
+use crate::certificate::Share;
+use crate::numbers::{narrow, product};
+use crate::ratio::Ratio;
+use inline_list::InlineList;
 
 impl Certificate {
     // The multiplier 1 and no row.
@@ -15,46 +14,40 @@ impl Certificate {
     {
         Certificate {
             multiplier: 1,
-            count: 0,
-            rows: [0; 24],
-            coefficients: [0; 24],
+            shares: InlineList::new(Share {
+                row: 0,
+                coefficient: 0,
+            }),
         }
     }
 
-    // Everything multiplied by the ratio's bottom, and its top as the coefficient of one row more; none where a number is then too large.
+    // Everything multiplied by p; none where a number is then too large.
+    #[tactic(auto, using(crate::proofs::Multiplying::all_small_more, crate::proofs::Multiplying::times_large))]
+    fn scaled(&self, p: u32) -> Option<Certificate>
+        ensures { Scaled p self.now result }
+    {
+        let mut all = Certificate::empty();
+        all.multiplier = narrow(product(p, self.multiplier))?;
+        for share in self.shares.as_slice() {
+            let coefficient = narrow(product(p, share.coefficient))?;
+            all.shares
+                .push(Share {
+                    coefficient,
+                    ..*share
+                })
+                .ok()?;
+        }
+        Some(all)
+    }
+
+    // Everything multiplied by the ratio's bottom, and its top as the coefficient of one row more; none where a number is then too
+    // large, or where there are 24 rows.
     pub(crate) fn extended(&self, row: usize, ratio: &Ratio) -> Option<Certificate>
-        requires { self.now.count < 24 }
         ensures { Extended row ratio.now.top ratio.now.bottom self.now result }
     {
-        let multiplier = product(ratio.bottom, self.multiplier);
-        if multiplier > MOST || ratio.top as u64 > MOST {
-            return None;
-        }
-        let mut coefficients = scaled(&self.coefficients, self.count, ratio.bottom)?;
-        let mut rows = self.rows;
-        rows[self.count] = row;
-        coefficients[self.count] = ratio.top;
-        Some(Certificate {
-            multiplier: multiplier as u32,
-            count: self.count + 1,
-            rows,
-            coefficients,
-        })
+        let mut more = self.scaled(ratio.bottom)?;
+        let coefficient = narrow(u64::from(ratio.top))?;
+        more.shares.push(Share { row, coefficient }).ok()?;
+        Some(more)
     }
-}
-
-// The first coefficients, each multiplied by p; none where one is then too large.
-fn scaled(coefficients: &[u32; 24], count: usize, p: u32) -> Option<[u32; 24]>
-    requires { count ≤ 24 }
-    ensures { Scaled coefficients.now count p result }
-{
-    let mut all = *coefficients;
-    for i in 0..count {
-        let next = product(p, coefficients[i]);
-        if next > MOST {
-            return None;
-        }
-        all[i] = next as u32;
-    }
-    Some(all)
 }

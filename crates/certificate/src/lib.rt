@@ -3,6 +3,8 @@
 
 mod certificate;
 mod extending;
+mod least;
+mod numbers;
 mod ratio;
 mod reading;
 mod round;

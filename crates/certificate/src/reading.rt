@@ -16,11 +16,10 @@ impl Certificate {
     pub fn coefficient(&self, row: usize) -> u32
         ensures { result ≡ coefficient self.now row }
     {
-        for i in 0..self.count {
-            if self.rows[i] == row {
-                return self.coefficients[i];
-            }
-        }
-        0
+        let shares = self.shares.as_slice();
+        shares
+            .iter()
+            .find(|share| share.row == row)
+            .map_or(0, |share| share.coefficient)
     }
 }

@@ -2,7 +2,7 @@
 ghost use Rattle.certificate.specs.Walked.{Walked};
 
 use crate::Certificate;
-use crate::round::{begin, is_within, is_zeros, take_row};
+use crate::round::Walk;
 use ledger::{Ledger, Row};
 
 // The certificate of a question over the rows of a ledger; none where a number of it is too large, or where no row can be taken.
@@ -10,22 +10,17 @@ use ledger::{Ledger, Row};
 pub fn walk<L: Ledger>(rows: &L, question: &Row) -> Option<Certificate>
     ensures { Walked L.Ledger rows.now question.now.counts result }
 {
-    let mut walk = begin(question);
+    let mut walk = Walk::begin(question);
     let count = rows.len();
+    // A ledger lends no slice of its rows: they are read by number.
     for i in 0..count {
-        if is_zeros(&walk.rest) {
+        if walk.is_done() {
             return Some(walk.certificate);
         }
-        let Ok(row) = rows.read(i + 1) else {
-            return None;
-        };
-        if is_within(&row, &walk.rest) {
-            walk = take_row(&walk, i, &row)?;
+        let row = rows.read(i + 1).ok()?;
+        if walk.takes(&row) {
+            walk = walk.take(i, &row)?;
         }
     }
-    if is_zeros(&walk.rest) {
-        Some(walk.certificate)
-    } else {
-        None
-    }
+    walk.is_done().then_some(walk.certificate)
 }

@@ -1,26 +1,17 @@
-use Rattle.std.proofs.Common.{◌≡◌, ◌-◌, ◌*◌, length, ap, ◌∙◌, subst, arith, rules}
-use Rattle.cycle_theory.specs.Nets.{at}
-use Rattle.certificate.proofs.Filling.{Filled, filled_none, filled_more, left_filled, left_large}
+use Rattle.std.proofs.Common.{◌≡◌, ◌*◌, length, sym, ap, subst, arith, rules}
+use Rattle.certificate.specs.Rounds.{Left}
+use Rattle.certificate.proofs.Leaving.{left_is, left_small, left_large}
 use Rattle.certificate.proofs.round.left.Goals as goal
 
-pub loop-j-init : goal.loop-j-init
-loop-j-init c = let long : length c.zeros-after.result.counts ≡ 24 = search rules in filled_none _ _ long
-
-pub overflow_sub-count : goal.overflow_sub-count
-overflow_sub-count c = let h = c.requires c.loop-j.j c.loop-j-test.true in omega (arith, h)
-
-pub loop-j-preserved : goal.loop-j-preserved
-loop-j-preserved c =
-    filled_more _ _ _ _ c.loop-j-test.true c.loop-j.invariant
-    (ap (λ a. a - c.product-in-loop-j.result) c.product.ensures ∙ ap (λ b. c.args.ratio.now.bottom * at c.args.rest.now.counts c.loop-j.j - b) c.product-in-loop-j.ensures)
-    (omega arith)
-
-pub returns-then-count-gt-MOST : goal.returns-then-count-gt-MOST
-returns-then-count-gt-MOST c = left_large c.args.ratio.now.bottom c.args.rest.now.counts c.args.ratio.now.top c.args.row.now.counts c.loop-j.j (omega arith)
+pub returns-in_err-count : goal.returns-in_err-count
+returns-in_err-count c =
+    let kept = ap (λ n. c.args.ratio.now.bottom * n) (c.loop-j.invariant.kept c.loop-j.j (omega arith)) in
+    subst (Left c.args.row.now.counts c.args.rest.now.counts c.args.ratio.now) (sym c.from_residual.ensures)
+    (left_large c.args.ratio.now.bottom c.args.rest.now.counts c.args.ratio.now.top c.args.row.now.counts c.loop-j.j (omega (arith, kept, c.in_err-count.ensures)))
 
 pub returns : goal.returns
 returns c =
-    let long : length c.args.rest.now.counts ≡ 24 = search rules in
-    let e : c.loop-j.j ≡ 24 = omega arith in
-    left_filled c.args.ratio.now.bottom c.args.rest.now.counts c.args.ratio.now.top c.args.row.now.counts _ long
-    (subst (Filled _ c.loop-j.after.counts) e c.loop-j.invariant)
+    let wide : length c.args.rest.now.counts ≡ 24 = search rules in
+    let is = left_is c.loop-j.count-items c.args.ratio.now.bottom c.args.rest.now.counts c.args.ratio.now.top c.args.row.now.counts (omega arith)
+    (λ k h. c.loop-j.invariant.done k (omega arith)) in
+    (left_small _ _ _ _ _ is (λ k h. c.loop-j.invariant.low k (omega arith)), is)

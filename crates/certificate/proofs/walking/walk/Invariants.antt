@@ -1,6 +1,5 @@
-use Rattle.certificate.proofs.Rounds.{Room}
 use Rattle.certificate.proofs.Passing.{Passing}
 use Rattle.certificate.proofs.walking.walk.Given as goal
 
 abbrev pub invariant-loop-i : goal.invariant-loop-i
-invariant-loop-i g l = Room l.walk × (g.L.Ledger.orderly l.rows → Passing (g.L.Ledger.rows l.rows) l.question.counts l.i l.walk)
+invariant-loop-i g l = g.L.Ledger.orderly l.rows → Passing (g.L.Ledger.rows l.rows) l.question.counts l.i l.walk

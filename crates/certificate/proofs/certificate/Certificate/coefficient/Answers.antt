@@ -1,17 +1,14 @@
-use Rattle.std.proofs.Common.{◌≡◌, length, arith, rules}
-use Rattle.certificate.proofs.Shares.{first_share, no_share}
+use Rattle.std.proofs.Common.{◌≡◌, nat_eq, find, rules, tests}
+use Rattle.std.specs.Option.{option_map}
+use Rattle.std.proofs.lemmas.Iterator.{YieldsList-from_slice}
+use Rattle.std.proofs.lemmas.Iterator.Search.{find_from_yields_List}
+use Rattle.certificate.proofs.Tests.{found, found_is_share}
 use Rattle.certificate.proofs.certificate.Certificate.coefficient.Goals as goal
-
-pub returns-then-self-i : goal.returns-then-self-i
-returns-then-self-i c =
-    let long : length c.args.self.now.rows ≡ 24 = search rules in
-    let long-cs : length c.args.self.now.coefficients ≡ 24 = search rules in
-    first_share c.args.self.now.rows c.args.self.now.coefficients c.args.self.now.count c.args.row c.args.self.now.few long long-cs
-    c.loop-i.i c.loop-i-test.true c.if-self-i.true c.loop-i.invariant
 
 pub returns : goal.returns
 returns c =
-    let long : length c.args.self.now.rows ≡ 24 = search rules in
-    let long-cs : length c.args.self.now.coefficients ≡ 24 = search rules in
-    no_share c.args.self.now.rows c.args.self.now.coefficients c.args.self.now.count c.args.row c.args.self.now.few long long-cs
-    (λ h l. c.loop-i.invariant h (omega (arith, l)))
+    let told : c.map_or.result ≡ found (option_map (λ x. x.now) c.find.result) = search rules in
+    let first : option_map (λ x. x.now) c.find.result ≡ find (λ s. nat_eq s.row c.args.row) c.as_slice-shares.result.now =
+    find_from_yields_List (λ s. nat_eq s.row c.args.row) _ _ c.find.result c.find.ensures.ran (YieldsList-from_slice c.as_slice-shares.result.now cc) (λ x b q k. search (rules, tests)) in
+    let share = found_is_share c.as_slice-shares.result.now c.args.row in
+    cc
