@@ -2,8 +2,8 @@
 --
 --   Accepts k n places             a sheet of n steps on a ledger of kind k accepts each place after those before it
 --   Stops k n places fault         it accepts the places up to one, and refuses that with this fault
---   Filled k n places s            it accepts them all, and s is the open sheet after them
---   SheetOf k n places c           it accepts them all, and c is the closed sheet
+--   Filled n places s              a sheet accepts them all, and s is the open sheet after them
+--   SheetOf n places c             a sheet accepts them all, and c is the closed sheet
 --   Refused j m A k n B fault      the first of two nets is stopped by this fault, or else the second
 --   Tells m A n B answer           Same, exactly when the two nets have equally many steps and the same cycles
 use Rattle.std.specs.Prelude.{◌≡◌, ℕ, ◌<◌, ◌⊎◌, ◌↔◌, List, [], length, take, Ok, Err, slice_index_or}
@@ -30,16 +30,16 @@ pub record Stops {L : Type 0} (k : Kind L) (n : ℕ) (places : List Place) (faul
   pub before : (i : ℕ) → i < at → answer_at k n places i ≡ Ok tt
   pub here : answer_at k n places at ≡ Err fault
 
-pub record Filled {L : Type 0} (k : Kind L) (n : ℕ) (places : List Place) (s : OpenSheet L) : Type 0 where
+pub record Filled {L : Type 0} {k : Kind L} (n : ℕ) (places : List Place) (s : OpenSheet L k) : Type 0 where
   pub accepts : Accepts k n places
   pub history : History
-  pub came : CameBy k n history s
+  pub came : CameBy n history s
   pub places_are : accepted history ≡ places
 
-pub record SheetOf {L : Type 0} (k : Kind L) (n : ℕ) (places : List Place) (c : ClosedSheet L) : Type 0 where
+pub record SheetOf {L : Type 0} {k : Kind L} (n : ℕ) (places : List Place) (c : ClosedSheet L k) : Type 0 where
   pub accepts : Accepts k n places
   pub history : History
-  pub closed : ClosedBy k n history c
+  pub closed : ClosedBy n history c
   pub places_are : accepted history ≡ places
 
 abbrev pub Refused : {L M : Type 0} → Kind L → ℕ → List Place → Kind M → ℕ → List Place → SheetFault → Type 0

@@ -1,9 +1,9 @@
 pub mod Causes
+pub mod Held
+pub mod Offers
 pub mod Listing
 pub mod Reading
-pub mod Offers
 pub mod Histories
-pub mod Answering
 pub mod Writing
 pub mod Asking
 pub mod Breaking

@@ -6,11 +6,9 @@
 --   answering n A x entries   what the question x is answered on a sheet of n steps with the places A
 --   list_after cs list answer the list after the answer: the coefficients cs in front where it is certified, else as it was
 --   Says n A x list answer    what the answer says of the question, and of the list that it leaves
---   NoCertificate answer      the answer is no certificate
---   Certifying ..             all of it, of a sheet whose ledger holds the rows of its places
+--   Certifying ..             all of it: the question x and the list `list` were answered so, and the list left as list'
 use Rattle.std.specs.Prelude.{◌≡◌, ℕ, ◌+◌, Bool, not, List, [], ◌∷◌, ◌++◌, length, take, drop, ℤ, Ok, Err, Result, ◌==◌, nat_lt}
 use Rattle.std.specs.List.{prefix_len}
-use Rattle.ledger.specs.declared.Ledger.{Ghosts as Kind}
 use Rattle.cycle_theory.specs.Nets.{Cycle}
 use Rattle.cycle_theory.specs.Method.{tss}
 use Rattle.cycle_theory.specs.Walk.{outcome}
@@ -21,7 +19,6 @@ use Rattle.sheet.specs.declared.answer.Answer.TheVariants.{Certified, Broken, To
 use Rattle.sheet.specs.declared.fault.SheetFault.{SheetFault}
 use Rattle.sheet.specs.declared.fault.SheetFault.TheVariants.{Length, Count, ListTooShort}
 use Rattle.sheet.specs.Verdict.{cause, first_of}
-use Rattle.sheet.specs.Sheets.{Holds}
 use Rattle.sheet.specs.Answers.{answer_of, coefficients_in}
 
 abbrev pub large : ℕ → Bool
@@ -54,16 +51,7 @@ Says n places x list (Ok (Broken place)) = (Cycle n places x → ⊥) × FirstBr
 Says n places x list (Ok TooLarge) = Cycle n places x
 Says n places x list (Err fault) = Unit {0}
 
-abbrev pub NoCertificate : Result Answer SheetFault → Type 0
-NoCertificate (Ok (Certified multiplier)) = ⊥
-NoCertificate (Ok (Broken place)) = Unit {0}
-NoCertificate (Ok TooLarge) = Unit {0}
-NoCertificate (Err fault) = Unit {0}
-
-pub record Certifying
-    {L : Type 0} (k : Kind L) (n : ℕ) (places : List (List ℤ)) (ledger : L) (x list : List ℕ) (answer : Result Answer SheetFault) (list' : List ℕ) : Type 0 where
-  pub answered : Holds k n places ledger → answer ≡ answering n places x (length list)
-  pub left : Holds k n places ledger → list' ≡ list_after (coefficients_in (outcome places (tss n places) x)) list answer
-  pub says : Holds k n places ledger → Says n places x list' answer
-  -- only a certificate is written, whatever the ledger holds
-  pub unwritten : NoCertificate answer → list' ≡ list
+pub record Certifying (n : ℕ) (places : List (List ℤ)) (x list : List ℕ) (answer : Result Answer SheetFault) (list' : List ℕ) : Type 0 where
+  pub answered : answer ≡ answering n places x (length list)
+  pub left : list' ≡ list_after (coefficients_in (outcome places (tss n places) x)) list answer
+  pub says : Says n places x list' answer

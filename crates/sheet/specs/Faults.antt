@@ -1,10 +1,10 @@
 -- The refusals of a sheet by the numbers that people know them by, and the step that a refusal names.
 --
 --   number fault      the number of the refusal
---   bracket fault     the step that it names, from 1; 0 where it names none
+--   bracket fault     the step that it names, from 1
 --   from_place fault  what a sheet says where the place cannot be made
 --   from_step fault   what a sheet says where the new rows cannot be made
-use Rattle.std.specs.Prelude.{ℕ}
+use Rattle.std.specs.Prelude.{ℕ, Some, None, Option}
 use Rattle.ledger.specs.declared.fault.LedgerFault.{LedgerFault}
 use Rattle.ledger.specs.declared.fault.LedgerFault.TheVariants.{NoRow, NoPosition, CountTooLarge, Full}
 use Rattle.ledger.specs.Faults as ledger
@@ -26,20 +26,20 @@ number ListTooShort = 11
 number (Ledger fault) = ledger.number fault
 
 -- the step that a ledger's refusal names
-abbrev pub ledger_bracket : LedgerFault → ℕ
-ledger_bracket NoRow = 0
-ledger_bracket NoPosition = 0
-ledger_bracket (CountTooLarge step) = step
-ledger_bracket Full = 0
+abbrev pub ledger_bracket : LedgerFault → Option ℕ
+ledger_bracket NoRow = None
+ledger_bracket NoPosition = None
+ledger_bracket (CountTooLarge step) = Some step
+ledger_bracket Full = None
 
-abbrev pub bracket : SheetFault → ℕ
-bracket StepCount = 0
-bracket Length = 0
-bracket (Effect step) = step
-bracket PlacesFull = 0
-bracket RowTooLarge = 0
-bracket (Count step) = step
-bracket ListTooShort = 0
+abbrev pub bracket : SheetFault → Option ℕ
+bracket StepCount = None
+bracket Length = None
+bracket (Effect step) = Some step
+bracket PlacesFull = None
+bracket RowTooLarge = None
+bracket (Count step) = Some step
+bracket ListTooShort = None
 bracket (Ledger fault) = ledger_bracket fault
 
 abbrev pub from_place : PlaceFault → SheetFault

@@ -1,7 +1,7 @@
 pub mod Faults
+pub mod Held
 pub mod Verdict
 pub mod Sheets
-pub mod Offering
 pub mod Runs
 pub mod Answers
 pub mod Certifying

@@ -13,24 +13,24 @@ pub enum Answer {
 }
 
 impl Answer {
-    // The number by which people know why there is no certificate; 0 where there is one.
-    pub fn number(&self) -> u32
+    // The number by which people know why there is no certificate.
+    pub fn number(&self) -> Option<u32>
         ensures { result ≡ answer_number self.now }
     {
         match self {
-            Answer::Certified(_) => 0,
-            Answer::Broken(_) => 9,
-            Answer::TooLarge => 10,
+            Answer::Certified(_) => None,
+            Answer::Broken(_) => Some(9),
+            Answer::TooLarge => Some(10),
         }
     }
 
-    // The broken place, from 1, and 0 where none is broken.
-    pub fn place(&self) -> usize
+    // The broken place, from 1.
+    pub fn place(&self) -> Option<usize>
         ensures { result ≡ answer_place self.now }
     {
         match self {
-            Answer::Broken(place) => *place,
-            _ => 0,
+            Answer::Broken(place) => Some(*place),
+            _ => None,
         }
     }
 }

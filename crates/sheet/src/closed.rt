@@ -15,16 +15,22 @@ impl<L: Ledger> ClosedSheet<L> {
 
     // How many rows the closed list has.
     pub fn row_count(&self) -> usize
-        ensures { Counted L.Ledger self.now result }
+        ensures { Counted self.now result }
     {
-        self.view().row_count()
+        self.rows.len()
     }
 
     // Copies row k of the closed list, counted from 1, to the front of `out`, one count a step. What stands behind stays.
     // Refused where there is no such row, then where `out` is shorter than the steps are many; `out` then stays as it was.
     pub fn read_row(&self, k: usize, out: &mut [u32]) -> Result<(), SheetFault>
-        ensures { ReadRow L.Ledger self.now.steps.n self.now.rows k out.old result out.new }
+        ensures { ReadRow self.now k out.old result out.new }
     {
-        self.view().read_row(k, out)
+        let row = self.rows.read(k)?;
+        let n = self.steps.get();
+        if out.len() < n {
+            return Err(SheetFault::ListTooShort);
+        }
+        out[..n].copy_from_slice(&row.counts[..n]);
+        Ok(())
     }
 }

@@ -1,8 +1,9 @@
 // Why a sheet refuses a call. A refusal leaves everything that was handed in as it was.
 ghost use Rattle.std.specs.Prelude.{◌≡◌};
 ghost use Rattle.sheet.specs.Faults.{number, bracket, from_place, from_step};
-ghost use Rattle.sheet.specs.declared.fault.SheetFault.TheVariants.{Ledger};
+ghost use Rattle.sheet.specs.declared.fault.SheetFault.TheVariants.{PlacesFull, Ledger};
 
+use inline_list::Full;
 use ledger::LedgerFault;
 use method::{PlaceFault, StepFault};
 
@@ -43,14 +44,14 @@ impl SheetFault {
         }
     }
 
-    // The step that the refusal names, from 1, and 0 where it names none.
-    pub fn step(&self) -> usize
+    // The step that the refusal names, from 1.
+    pub fn step(&self) -> Option<usize>
         ensures { result ≡ bracket self.now }
     {
         match self {
-            SheetFault::Effect(step) | SheetFault::Count(step) => *step,
-            SheetFault::Ledger(LedgerFault::CountTooLarge(step)) => *step,
-            _ => 0,
+            SheetFault::Effect(step) | SheetFault::Count(step) => Some(*step),
+            SheetFault::Ledger(LedgerFault::CountTooLarge(step)) => Some(*step),
+            _ => None,
         }
     }
 }
@@ -60,6 +61,15 @@ impl From<LedgerFault> for SheetFault {
 
     fn from(fault: LedgerFault) -> SheetFault {
         SheetFault::Ledger(fault)
+    }
+}
+
+// The list of places is full.
+impl From<Full> for SheetFault {
+    ghost from_gives = { λ _ r. r ≡ PlacesFull };
+
+    fn from(_full: Full) -> SheetFault {
+        SheetFault::PlacesFull
     }
 }
 

@@ -9,7 +9,6 @@ mod fault;
 mod open;
 mod sheets;
 mod steps;
-mod view;
 
 pub use answer::Answer;
 pub use comparing::{Comparison, compare};

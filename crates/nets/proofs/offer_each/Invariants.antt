@@ -6,4 +6,4 @@ use Rattle.nets.proofs.offer_each.Given as goal
 
 abbrev pub invariant-loop-place : goal.invariant-loop-place
 invariant-loop-place g l =
-    (n : ℕ) → Opened g.L.Ledger n l.initial.sheet → Reached g.L.Ledger n (map effects_of l.places) l.place-index l.sheet
+    (n : ℕ) → Opened n l.initial.sheet → Reached n (map effects_of l.places) l.place-index l.sheet

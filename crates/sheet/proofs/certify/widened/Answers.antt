@@ -1,19 +1,8 @@
-use Rattle.std.proofs.Common.{◌≡◌, length, replicate, refl, ap, subst, arith}
-use Rattle.cycle_theory.specs.Nets.{at}
-use Rattle.sheet.proofs.Writing.{Written, written_none, written_more, widened_all}
+use Rattle.std.proofs.Common.{List, ℕ, ◌++◌, length, drop, replicate, ap, ◌∙◌}
+use Rattle.std.proofs.lemmas.List.{drop-replicate}
 use Rattle.sheet.proofs.certify.widened.Goals as goal
-
-pub loop-j-init : goal.loop-j-init
-loop-j-init c = written_none _ _
-
-pub loop-j-preserved : goal.loop-j-preserved
-loop-j-preserved c =
-    let long : length c.zeros-row.result.counts ≡ 24 = ap length c.zeros-row.ensures in
-    written_more _ _ _ _ _ (omega arith) refl c.loop-j.invariant
 
 pub returns : goal.returns
 returns c =
-    let e : c.loop-j.j ≡ length c.args.counts.now = omega arith in
-    widened_all c.args.counts.now _ c.requires
-    (subst (Written (at c.args.counts.now) (replicate 24 0) c.loop-j.row.counts) e
-    (subst (λ was. Written (at c.args.counts.now) was c.loop-j.row.counts c.loop-j.j) c.zeros-row.ensures c.loop-j.invariant))
+    let n = length c.args.counts.now in
+    ap (λ (x : List ℕ). x ++ drop n (replicate 24 0)) c.copy_from_slice.ensures.after ∙ ap (λ (x : List ℕ). c.args.counts.now ++ x) (drop-replicate n 24 0)

@@ -1,14 +1,12 @@
-use Rattle.std.proofs.Common.{◌≡◌, subst, arith}
-use Rattle.sheet.proofs.Writing.{Written, written_none, written_more, written_all}
+use Rattle.std.proofs.Common.{List, ℕ, ◌++◌, drop, ap, ◌∙◌, arith, length-take-le}
+use Rattle.certificate.specs.Shares.{coefficient}
+use Rattle.sheet.proofs.Writing.{all_written}
 use Rattle.sheet.proofs.certify.write_coefficients.Goals as goal
-
-pub loop-k-init : goal.loop-k-init
-loop-k-init c = written_none _ _
-
-pub loop-k-preserved : goal.loop-k-preserved
-loop-k-preserved c = written_more _ _ _ _ _ (omega arith) c.coefficient.ensures c.loop-k.invariant
 
 pub returns : goal.returns
 returns c =
-    let e : c.loop-k.k ≡ c.args.rows = omega arith in
-    written_all _ _ _ _ c.requires (subst (Written _ c.args.list.now c.loop-k.list) e c.loop-k.invariant)
+    let n = c.args.rows in
+    let was = c.args.list.now in
+    let many = length-take-le n was c.requires in
+    ap (λ (xs : List ℕ). xs ++ drop n was)
+    (all_written (coefficient c.args.certificate.now) n c.loop-k.entry-items (c.loop-k.auto.entry-items ∙ many) (λ k h. c.loop-k.invariant k (omega (arith, c.loop-k-test.false, many, h))))

@@ -1,28 +1,36 @@
-use Rattle.std.proofs.Common.{arith}
+use Rattle.std.proofs.Common.{List, ◌∷◌, [], ◌++◌, ℤ, ap, sym, refl, ◌∙◌}
 use Rattle.std.proofs.lemmas.Result.{err_from_is_err_and}
-use Rattle.sheet.specs.Sheets.{steps_of, places_of}
-use Rattle.sheet.proofs.Causes.{passed_few}
-use Rattle.sheet.proofs.Offers.{places_many, refused_early, refused_late, accepted_whole}
+use Rattle.sheet.specs.Sheets.{places_of}
+use Rattle.sheet.proofs.Causes.{done_not_refused}
+use Rattle.sheet.proofs.Held.{made_order, made_rows}
+use Rattle.sheet.proofs.Offers.{effects_pushed, told_answer, holds_more, refused_so}
 use Rattle.sheet.proofs.sheets.OpenSheet.offer.Goals as goal
 
-pub returns-in_err-place : goal.returns-in_err-place
-returns-in_err-place g c =
-    let p = err_from_is_err_and c.from_residual.result c.from_residual.ensures.1 in
-    let e = c.in_err-place.ensures in
-    rw (p.1, p.2) (refused_early g.L.Ledger c.args.self.now c.args.effects.now _ e)
-
-pub returns-in_err-build : goal.returns-in_err-build
-returns-in_err-build g c =
-    let p = err_from_is_err_and c.from_residual-in_err-build.result c.from_residual-in_err-build.ensures.1 in
-    rw (p.1, p.2) (refused_late g.L.Ledger c.args.self.now c.args.effects.now c.in_ok-place.place _ _ c.in_ok-place.ensures c.in_err-build.ensures)
-
-pub take-requires : goal.take-requires
-take-requires g c =
+pub invariant_of-self : goal.invariant_of-self
+invariant_of-self g c =
     let s = c.args.self.now in
-    let few = passed_few (steps_of s) (places_of s) c.args.effects.now c.in_ok-place.ensures.0 in
-    let many = places_many s.count s.places (omega (arith, s.table, s.room)) in
-    omega (arith, few, many, c.build.ensures.count)
+    record { held = s.held; spare_order = made_order s _ _ _ c.in_err-next_rows.ensures; spare_empty = made_rows s _ _ _ c.in_err-next_rows.ensures }
+
+pub returns-in_err-next_rows : goal.returns-in_err-next_rows
+returns-in_err-next_rows g c =
+    let s = c.args.self.now in
+    let r = err_from_is_err_and c.from_residual-in_err-next_rows.result c.from_residual-in_err-next_rows.ensures.1 in
+    rw (r.1, r.2) (refused_so s _ c.args.effects.now _ refl refl refl
+    (told_answer s c.args.effects.now (c.if-effects-get.false ∙ c.get.ensures) c.in_ok-place.ensures.1 c.in_ok-push.ensures.0 c.in_ok-place.place c.in_ok-place.ensures.2 _ _ c.in_err-next_rows.ensures))
+
+pub invariant_of-self-2 : goal.invariant_of-self-2
+invariant_of-self-2 g c = record {
+  held = holds_more c.args.self.now c.args.effects.now (c.if-effects-get.false ∙ c.get.ensures) c.in_ok-place.place c.in_ok-place.ensures.2 _ _ c.in_ok-next_rows.ensures c.swap.ensures.x_after c.push.new.self c.in_ok-push.ensures.1;
+  spare_order = ∣ c.clear.ensures.order ∣₁;
+  spare_empty = c.clear.ensures.empty;
+}
 
 pub returns : goal.returns
 returns g c =
-    accepted_whole g.L.Ledger c.args.self.now c.args.effects.now c.in_ok-place.place _ _ c.in_ok-place.ensures c.in_ok-build.ensures c.take.ensures
+    let s = c.args.self.now in
+    record {
+      steps = refl;
+      answered = sym (told_answer s c.args.effects.now (c.if-effects-get.false ∙ c.get.ensures) c.in_ok-place.ensures.1 c.in_ok-push.ensures.0 c.in_ok-place.place c.in_ok-place.ensures.2 _ _ c.in_ok-next_rows.ensures);
+      places = effects_pushed s.places c.push.new.self c.in_ok-place.place c.in_ok-push.ensures.1 ∙ ap (λ (q : List ℤ). places_of s ++ q ∷ []) c.in_ok-place.ensures.2;
+      refused = λ fault e. absurd (done_not_refused fault e);
+    }
