@@ -1,18 +1,23 @@
--- A line that is read up to some field, and each way on from there. Assumes nothing.
-use Rattle.std.proofs.Common.{◌≡◌, ℕ, suc, ◌+◌, ◌-◌, ◌<◌, ◌≤◌, Bool, true, false, cond, not, ltb, ◌⊎◌, List, [], ◌∷◌, ◌++◌, reverse, length, get_or, take, set, ℤ, pos, negsuc, None, Ok, Err, sym, refl, ap, ◌∙◌, subst, inl, inr, append_assoc, arith}
+-- A line that is read up to some field, and each way on from there.
+use Rattle.std.proofs.Common.{◌≡◌, ℕ, suc, ◌+◌, ◌-◌, ◌<◌, ◌≤◌, min, Bool, true, false, cond, not, ◌⊎◌, List, [], ◌∷◌, ◌++◌, reverse, length, get_or, take, ℤ, pos, negsuc, None, Ok, Err, Result, sym, refl, ap, ◌∙◌, subst, inl, inr, append_assoc, arith}
 use Rattle.std.specs.Fmt.{signed_decimal}
 use Rattle.std.specs.List.{flat_map}
-use Rattle.std.proofs.lemmas.Bool.{cond-true, cond-false, eq-eqb, ne_eqb, le-ltb, lt-ltb, lt-leb, and_left, and_right, cases_eq, cases_Bool, cases_lt}
+use Rattle.std.proofs.Math.Seq.{take-append_seam}
+use Rattle.std.proofs.lemmas.Bool.{false≢true, false_from_ne_true, cond-true, cond-false, eq-eqb, ne_eqb, le-ltb, lt-leb, and_left, and_right, cases_eq, cases_Bool, cases_lt}
 use Rattle.std.proofs.lemmas.Bool.Decides.{nat_tests}
-use Rattle.std.proofs.lemmas.List.{take_more, length-append, length-reverse, length-set, length-take-le, reverse-reverse, take-append-le, take_at, get_or_append_left, get_or_at, get_or-set_same, get_or-set_other, reverse-append}
+use Rattle.std.proofs.lemmas.List.{length-append, length-reverse, reverse-reverse, take-append-le, take_at, get_or_append_left, get_or_at, reverse-append}
+use Rattle.inline_list.specs.declared.Full.{Full}
+use Rattle.inline_list.specs.declared.list.InlineList.{InlineList}
+use Rattle.inline_list.specs.Items.{items, Pushed}
+use Rattle.grammar.specs.declared.broken.BrokenLine.{BrokenLine}
 use Rattle.grammar.specs.declared.mark.Mark.{Mark}
 use Rattle.grammar.specs.declared.mark.Mark.TheVariants.{Steps, Standing, Place, Question}
 use Rattle.grammar.specs.declared.line.Field.{Field}
 use Rattle.grammar.specs.Text.{letter, field}
 use Rattle.grammar.specs.Lines.{Broken, Held, field_in, ReadAs}
-use Rattle.grammar.specs.Reading.{NoDigit, FullZ, MinusOnly, Number, room_at, enough_at, signs}
-use Rattle.grammar.proofs.Machine.{resting, spaced, minus, more, enough, is_digit, grown, step, Signed}
-use Rattle.grammar.proofs.Lines.{back, Fit, back_onto, whole, ended_text, break_rest, break_spaced, break_minus}
+use Rattle.grammar.specs.Reading.{First, NoByte, NoDigit, FullZ, Number, Another, room_at, enough_at, signs}
+use Rattle.grammar.proofs.Machine.{resting, spaced, minus, more, enough, is_digit, grown, step}
+use Rattle.grammar.proofs.Lines.{back, front, Fit, back_onto, whole, ended_text, break_rest, break_spaced, break_minus}
 
 room_more : (m : Mark) (xs : List ℤ) → room_at m (length xs) ≡ more m xs
 room_more Steps [] = refl
@@ -29,9 +34,9 @@ enough_same Place xs = refl
 enough_same Question xs = refl
 
 -- no digit, or the last number takes none
-abbrev Stops : List ℕ → ℕ → List ℤ → Type 0
-Stops s k [] = Unit {0}
-Stops s k (x ∷ xs) = NoDigit s k ⊎ FullZ x
+abbrev Stops : List ℕ → List ℤ → Type 0
+Stops s [] = Unit {0}
+Stops s (x ∷ xs) = NoDigit s ⊎ FullZ x
 
 full_stuck : (m : Mark) (z : ℤ) (xs : List ℤ) (d : ℕ) → FullZ z → grown m (z ∷ xs) d ≡ None
 full_stuck m (pos v) xs d (inl e) = cond-false _ _ _ (and_left _ _ (le-ltb 0 v (omega arith)))
@@ -42,30 +47,33 @@ no_digit : (b : ℕ) → (b < 48) ⊎ (57 < b) → is_digit b ≡ false
 no_digit b (inl h) = and_left _ _ (lt-leb 48 b h)
 no_digit b (inr h) = and_right _ _ (lt-leb b 57 h)
 
-digit_stuck : (m : Mark) (xs : List ℤ) (s : List ℕ) (k : ℕ) → k < length s → Stops s k xs → cond (is_digit (get_or s k 0)) (grown m xs (get_or s k 0 - 48)) None ≡ None
-digit_stuck m [] s k l h = elim (cases_Bool (is_digit (get_or s k 0))) [ inl e ↦ cond-true _ _ _ e | inr e ↦ cond-false _ _ _ e ]
-digit_stuck m (x ∷ xs) s k l (inl n) = cond-false _ _ _ (no_digit (get_or s k 0) (n l))
-digit_stuck m (x ∷ xs) s k l (inr f) =
-    elim (cases_Bool (is_digit (get_or s k 0))) [ inl e ↦ cond-true _ _ _ e ∙ full_stuck m x xs (get_or s k 0 - 48) f | inr e ↦ cond-false _ _ _ e ]
+digit_stuck : (m : Mark) (xs : List ℤ) (b : ℕ) (t : List ℕ) → Stops (b ∷ t) xs → cond (is_digit b) (grown m xs (b - 48)) None ≡ None
+digit_stuck m [] b t l = elim (cases_Bool (is_digit b)) [ inl e ↦ cond-true _ _ _ e | inr e ↦ cond-false _ _ _ e ]
+digit_stuck m (x ∷ xs) b t (inl n) = cond-false _ _ _ (no_digit b n)
+digit_stuck m (x ∷ xs) b t (inr f) =
+    elim (cases_Bool (is_digit b)) [ inl e ↦ cond-true _ _ _ e ∙ full_stuck m x xs (b - 48) f | inr e ↦ cond-false _ _ _ e ]
 
-rest_stuck : (m : Mark) (xs : List ℤ) (s : List ℕ) (k : ℕ) → k < length s → Stops s k xs → (get_or s k 0 ≡ 32 → more m xs ≡ false) → (get_or s k 0 ≡ 10 → enough m xs ≡ false) → step (resting m xs) (get_or s k 0) ≡ None
-rest_stuck m xs s k l h room ends =
-    elim (cases_eq (get_or s k 0) 32) [
-      | inl e ↦ cond-true _ _ _ (eq-eqb (get_or s k 0) 32 e) ∙ cond-false _ _ _ (room e)
-      | inr n ↦ cond-false _ _ _ (ne_eqb (get_or s k 0) 32 n) ∙ elim (cases_eq (get_or s k 0) 10) [
-        | inl e ↦ cond-true _ _ _ (eq-eqb (get_or s k 0) 10 e) ∙ cond-false _ _ _ (ends e)
-        | inr o ↦ cond-false _ _ _ (ne_eqb (get_or s k 0) 10 o) ∙ digit_stuck m xs s k l h
+rest_stuck : (m : Mark) (xs : List ℤ) (s : List ℕ) → Stops s xs → (more m xs ≡ true → NoByte 32 s) → (enough m xs ≡ true → NoByte 10 s) → First (λ b. step (resting m xs) b ≡ None) s
+rest_stuck m xs [] l room ends = tt
+rest_stuck m xs (b ∷ t) l room ends =
+    elim (cases_eq b 32) [
+      | inl e ↦ cond-true _ _ _ (eq-eqb b 32 e) ∙ cond-false _ _ _ (false_from_ne_true (more m xs) (λ h. room h e))
+      | inr n ↦ cond-false _ _ _ (ne_eqb b 32 n) ∙ elim (cases_eq b 10) [
+        | inl e ↦ cond-true _ _ _ (eq-eqb b 10 e) ∙ cond-false _ _ _ (false_from_ne_true (enough m xs) (λ h. ends h e))
+        | inr o ↦ cond-false _ _ _ (ne_eqb b 10 o) ∙ digit_stuck m xs b t l
       ]
     ]
 
-spaced_stuck : (m : Mark) (xs : List ℤ) (b : ℕ) → (b < 48) ⊎ (57 < b) → (b ≡ 45 → signs m ≡ false) → step (spaced m xs) b ≡ None
-spaced_stuck m xs b n sign =
+spaced_stuck : (m : Mark) (xs : List ℤ) (s : List ℕ) → NoDigit s → (signs m ≡ true → NoByte 45 s) → First (λ b. step (spaced m xs) b ≡ None) s
+spaced_stuck m xs [] n sign = tt
+spaced_stuck m xs (b ∷ t) n sign =
     cond-false _ _ _ (no_digit b n)
-    ∙ elim (cases_eq b 45) [ inl e ↦ cond-true _ _ _ (eq-eqb b 45 e) ∙ cond-false _ _ _ (sign e) | inr o ↦ cond-false _ _ _ (ne_eqb b 45 o) ]
+    ∙ elim (cases_eq b 45) [ inl e ↦ cond-true _ _ _ (eq-eqb b 45 e) ∙ cond-false _ _ _ (false_from_ne_true (signs m) (λ h. sign h e)) | inr o ↦ cond-false _ _ _ (ne_eqb b 45 o) ]
 
-minus_stuck : (m : Mark) (xs : List ℤ) (b : ℕ) → (b ≡ 48) ⊎ ((b < 48) ⊎ (57 < b)) → step (minus m xs) b ≡ None
-minus_stuck m xs b (inl e) = cond-true _ _ _ (let d : is_digit b ≡ true = grind (arith, nat_tests) in d) ∙ cond-false _ _ _ (le-ltb 48 b (omega arith))
-minus_stuck m xs b (inr n) = cond-false _ _ _ (no_digit b n)
+minus_stuck : (m : Mark) (xs : List ℤ) (s : List ℕ) → First (λ b. (b ≡ 48) ⊎ ((b < 48) ⊎ (57 < b))) s → First (λ b. step (minus m xs) b ≡ None) s
+minus_stuck m xs [] h = tt
+minus_stuck m xs (b ∷ t) (inl e) = cond-true _ _ _ (let d : is_digit b ≡ true = grind (arith, nat_tests) in d) ∙ cond-false _ _ _ (le-ltb 48 b (omega arith))
+minus_stuck m xs (b ∷ t) (inr n) = cond-false _ _ _ (no_digit b n)
 
 -- the fields that are held, when one comes after them
 reverse_push : (z : ℤ) (xs : List ℤ) → reverse (z ∷ xs) ≡ reverse xs ++ (z ∷ [])
@@ -76,156 +84,151 @@ field_kept i ns z k h =
     ap (λ l. record { line = i; column = length (flat_map field l) + 4; value = get_or (ns ++ (z ∷ [])) k (pos 0) }) (take-append-le k ns (z ∷ []) (omega arith))
     ∙ ap (λ (v : ℤ). record { line = i; column = length (flat_map field (take k ns)) + 4; value = v }) (get_or_append_left ns (z ∷ []) (pos 0) k h)
 
-field_new : (i : ℕ) (ns : List ℤ) (z : ℤ) (n p : ℕ) → length ns ≡ n → length (flat_map field ns) ≡ p → record { line = i; column = p + 4; value = z } ≡ field_in i (ns ++ (z ∷ [])) n
-field_new i ns z n p h e =
-    let at : p + 4 ≡ length (flat_map field ns) + 4 = omega arith in
-    ap (λ (k : ℕ). record { line = i; column = k; value = z }) (at ∙ ap (λ l. length (flat_map field l) + 4) (sym (take_at ns (z ∷ []) n h)))
-    ∙ ap (λ (v : ℤ). record { line = i; column = length (flat_map field (take n (ns ++ (z ∷ [])))) + 4; value = v }) (sym (get_or_at ns z [] (pos 0) n h))
+field_new : (i : ℕ) (ns : List ℤ) (z : ℤ) (c : ℕ) → c ≡ length (flat_map field ns) + 4 → record { line = i; column = c; value = z } ≡ field_in i (ns ++ (z ∷ [])) (length ns)
+field_new i ns z c e =
+    ap (λ (k : ℕ). record { line = i; column = k; value = z }) (e ∙ ap (λ l. length (flat_map field l) + 4) (sym (take-append_seam ns (z ∷ []))))
+    ∙ ap (λ (v : ℤ). record { line = i; column = length (flat_map field (take (length ns) (ns ++ (z ∷ [])))) + 4; value = v }) (sym (get_or_at ns z [] (pos 0) (length ns) refl))
 
-held_more : (i : ℕ) (fs : List Field) (ns : List ℤ) (z : ℤ) (n p : ℕ) → length fs ≡ 25 → length ns ≡ n → length (flat_map field ns) ≡ p → Held i fs ns → Held i (cond (ltb n 25) (set fs n (record { line = i; column = p + 4; value = z })) fs) (ns ++ (z ∷ []))
-held_more i fs ns z n p size len e h k small l d =
+-- the fields fs are the first 25 of line i with the numbers ns
+pub record Fields (i : ℕ) (fs : List Field) (ns : List ℤ) : Type 0 where
+  pub kept : length fs ≡ min (length ns) 25
+  pub held : Held i fs ns
+
+fields_more : (i : ℕ) (fs gs : List Field) (ns : List ℤ) (z : ℤ) (f : Field) (r : Result (Unit {0}) Full) → f ≡ field_in i (ns ++ (z ∷ [])) (length ns) → Fields i fs ns → Pushed 25 fs f r gs → Fields i gs (ns ++ (z ∷ []))
+fields_more i fs gs ns z f (Ok u) new h push =
+    let kept = h.kept in
+    let room = push.0 in
     let longer = length-append ns (z ∷ []) in
-    let f : Field = record { line = i; column = p + 4; value = z } in
-    elim (cases_lt k n) [
-      | inl lower ↦ elim (cases_lt n 25) [
-        | inl few ↦ ap (λ gs. get_or gs k d) (cond-true _ _ _ (lt-ltb n 25 few)) ∙ get_or-set_other fs n k f d (λ w. omega arith) ∙ h k small (omega arith) d ∙ sym (field_kept i ns z k (omega arith))
-        | inr many ↦ ap (λ gs. get_or gs k d) (cond-false _ _ _ (le-ltb n 25 many)) ∙ h k small (omega arith) d ∙ sym (field_kept i ns z k (omega arith))
-      ]
-      | inr upper ↦
-          let here : k ≡ n = omega arith in
-          ap (λ gs. get_or gs k d) (cond-true _ _ _ (lt-ltb n 25 (omega arith)))
-          ∙ ap (λ j. get_or (set fs n f) j d) here
-          ∙ get_or-set_same fs n f d (omega arith)
-          ∙ field_new i ns z n p len e
-          ∙ ap (field_in i (ns ++ (z ∷ []))) (sym here)
-    ]
+    let one = ap length push.1 ∙ length-append fs (f ∷ []) in
+    record {
+      kept = omega arith;
+      held = λ k small l d.
+          elim (cases_lt k (length ns)) [
+            | inl lower ↦ ap (λ l. get_or l k d) push.1 ∙ get_or_append_left fs (f ∷ []) d k (omega arith) ∙ h.held k small lower d ∙ sym (field_kept i ns z k lower)
+            | inr upper ↦
+                let last : k ≡ length ns = omega arith in
+                ap (λ l. get_or l k d) push.1 ∙ get_or_at fs f [] d k (omega arith) ∙ new ∙ ap (field_in i (ns ++ (z ∷ []))) (sym last)
+          ];
+    }
+fields_more i fs gs ns z f (Err e) new h push =
+    let kept = h.kept in
+    let full = push.0 in
+    let longer = length-append ns (z ∷ []) in
+    let same = ap length push.1 in
+    record {
+      kept = omega arith;
+      held = λ k small l d. ap (λ l. get_or l k d) push.1 ∙ h.held k small (omega arith) d ∙ sym (field_kept i ns z k (omega arith));
+    }
 
 -- the bytes of a line, and those behind its mark
 abbrev pub behind : Mark → List ℕ → List ℕ
 behind m w = letter m ∷ (58 ∷ w)
 
-take_behind : (m : Mark) (w : List ℕ) (k : ℕ) → take (k + 2) (behind m w) ≡ behind m (take k w)
-take_behind m w k = let two : k + 2 ≡ suc (suc k) = omega arith in ap (λ j. take j (behind m w)) two
-
-get_or_behind : (m : Mark) (w : List ℕ) (k : ℕ) → get_or (behind m w) (k + 2) 0 ≡ get_or w k 0
-get_or_behind m w k = let two : k + 2 ≡ suc (suc k) = omega arith in ap (λ j. get_or (behind m w) j 0) two
-
--- line i is read up to a field's end
-pub record Sofar (i : ℕ) (w : List ℕ) (m : Mark) (at count : ℕ) (fs : List Field) : Type 0 where
+-- line i, of whose bytes w stand behind the mark, is read up to `rest`, which begins at this column
+pub record Sofar (i : ℕ) (w : List ℕ) (m : Mark) (column count : ℕ) (fs : List Field) (rest : List ℕ) : Type 0 where
   pub xs : List ℤ
   pub fit : Fit m xs
-  pub is : take at w ≡ back xs
-  pub within : at ≤ length w
+  pub is : w ≡ back xs ++ rest
+  pub placed : column ≡ length (back xs) + 3
   pub counted : count ≡ length xs
-  pub held : Held i fs (reverse xs)
-  pub stops : Stops w at xs
-
-pub begin_so : (i : ℕ) (w : List ℕ) (m : Mark) (fs : List Field) → Sofar i w m 0 0 fs
-begin_so i w m fs = record { xs = []; fit = tt; is = refl; within = omega arith; counted = refl; held = λ k small l d. absurd (omega arith); stops = tt }
-
-spaced_is : (s : List ℕ) (p : ℕ) (q : List ℕ) (b : ℕ) → take p s ≡ q → p < length s → get_or s p 0 ≡ b → take (p + 1) s ≡ q ++ (b ∷ [])
-spaced_is s p q b e l h = take_more s p 0 l ∙ ap (λ w. w ++ (get_or s p 0 ∷ [])) e ∙ ap (λ c. q ++ (c ∷ [])) h
-
-signed_of : (m : Mark) (z : ℤ) → MinusOnly z (signs m) → Signed m z
-signed_of m (pos v) h = tt
-signed_of m (negsuc v) h = h
+  pub few : count + 3 ≤ column
+  pub fields : Fields i fs (reverse xs)
+  pub stops : Stops rest xs
 
 back_joined : (xs : List ℤ) → back xs ≡ flat_map field (reverse xs)
 back_joined xs = ap back (sym (reverse-reverse xs)) ∙ back_onto (reverse xs) []
 
-length_is : (w : List ℕ) (p : ℕ) (xs : List ℤ) → p ≤ length w → take p w ≡ back xs → length (flat_map field (reverse xs)) ≡ p
-length_is w p xs h e =
-    let l1 = ap length e in
-    let l2 = length-take-le p w h in
-    let l3 = ap length (back_joined xs) in
-    omega arith
+more_is : (m : Mark) (n : ℕ) (xs : List ℤ) → n ≡ length xs → room_at m n ≡ more m xs
+more_is m n xs count = ap (room_at m) count ∙ room_more m xs
 
-more_is : (m : Mark) (n : ℕ) (xs : List ℤ) → n ≡ length xs → room_at m n ≡ true → more m xs ≡ true
-more_is m n xs count room = sym (room_more m xs) ∙ ap (room_at m) (sym count) ∙ room
+enough_is : (m : Mark) (n : ℕ) (xs : List ℤ) → n ≡ length xs → enough_at m n ≡ enough m xs
+enough_is m n xs count = ap (enough_at m) count ∙ enough_same m xs
 
-pub next_so : (i : ℕ) (w : List ℕ) (m : Mark) (p n : ℕ) (fs : List Field) (q : ℕ) (z : ℤ) → Sofar i w m p n fs → length fs ≡ 25 → p < length w → get_or w p 0 ≡ 32 → room_at m n ≡ true → Number w (p + 1) q (signs m) (Ok z) → Sofar i w m q (n + 1) (cond (ltb n 25) (set fs n (record { line = i; column = p + 4; value = z })) fs)
-next_so i w m p n fs q z so size l b room read =
+space_comes : (s t : List ℕ) (p n : ℕ) (m : Mark) (b : Bool) → Another s p m n (Ok b) t → b ≡ true → (s ≡ 32 ∷ t) × (room_at m n ≡ true)
+space_comes s t p n m true told e = told
+space_comes s t p n m false told e = absurd (false≢true e)
+
+end_comes : (s t : List ℕ) (p n : ℕ) (m : Mark) (b : Bool) → Another s p m n (Ok b) t → b ≡ false → (s ≡ 10 ∷ t) × (enough_at m n ≡ true)
+end_comes s t p n m false told e = told
+end_comes s t p n m true told e = absurd (false≢true (sym e))
+
+-- after a space, behind which column c is, comes the number z
+pub next_so : {i : ℕ} {w : List ℕ} {m : Mark} {p n : ℕ} {fs : List Field} {s : List ℕ} (t : List ℕ) (b : Bool) (c q : ℕ) (z : ℤ) (u : List ℕ) (f : Field) (r : Result (Unit {0}) Full) (gs : List Field) → Sofar i w m p n fs s → Another s p m n (Ok b) t → b ≡ true → c + length t ≡ p + length s → Number t c m (Ok z) u → q + length u ≡ c + length t → f ≡ record { line = i; column = c; value = z } → Pushed 25 fs f r gs → Sofar i w m q (n + 1) gs u
+next_so {i} {w} {m} {p} {n} {fs} {s} t b c q z u f r gs so told branch moved read along is push =
+    let comes = space_comes s t p n m b told branch in
+    let space = comes.0 in
     let xs = so.xs in
     let count = so.counted in
-    let back_long = length-reverse xs in
+    let placed = so.placed in
+    let few = so.few in
+    let one = ap length space in
+    let long = ap length read.0 ∙ length-append (signed_decimal z) u in
+    let more_long = length-append (back xs) (field z) in
+    let back_long = ap length (back_joined xs) in
+    let reversed = length-reverse xs in
+    let new = is ∙ field_new i (reverse xs) z c (omega arith) in
     record {
       xs = z ∷ xs;
-      fit = (so.fit, more_is m n xs count room, read.2, signed_of m z read.3);
-      is = read.1 ∙ ap (λ v. v ++ signed_decimal z) (spaced_is w p (back xs) 32 so.is l b) ∙ append_assoc (back xs) (32 ∷ []) (signed_decimal z);
-      within = read.0;
+      fit = (so.fit, sym (more_is m n xs count) ∙ comes.1, read.1, read.2);
+      is = so.is ∙ ap (λ l. back xs ++ l) (space ∙ ap (λ l. 32 ∷ l) read.0) ∙ sym (append_assoc (back xs) (field z) u);
+      placed = omega arith;
       counted = omega arith;
-      held = subst (Held i (cond (ltb n 25) (set fs n (record { line = i; column = p + 4; value = z })) fs)) (sym (reverse_push z xs)) (held_more i fs (reverse xs) z n p size (omega arith) (length_is w p xs so.within so.is) so.held);
-      stops = read.4;
+      few = omega arith;
+      fields = subst (Fields i gs) (sym (reverse_push z xs)) (fields_more i fs gs (reverse xs) z f r new so.fields push);
+      stops = read.3;
     }
 
-pub number_breaks : (i : ℕ) (w : List ℕ) (m : Mark) (p n : ℕ) (fs : List Field) (q c : ℕ) → Sofar i w m p n fs → p < length w → get_or w p 0 ≡ 32 → room_at m n ≡ true → Number w (p + 1) q (signs m) (Err c) → Broken (behind m w) c
-number_breaks i w m p n fs q c so l b room read =
+pub number_breaks : {i : ℕ} {w : List ℕ} {m : Mark} {p n : ℕ} {fs : List Field} {s : List ℕ} (t : List ℕ) (b : Bool) (c : ℕ) (e : BrokenLine) (u : List ℕ) → Sofar i w m p n fs s → Another s p m n (Ok b) t → b ≡ true → c + length t ≡ p + length s → Number t c m (Err e) u → Broken (behind m w) e.column
+number_breaks {i} {w} {m} {p} {n} {fs} {s} t b c e u so told branch moved read =
+    let comes = space_comes s t p n m b told branch in
+    let space = comes.0 in
     let xs = so.xs in
-    let fits : more m xs ≡ true = more_is m n xs so.counted room in
-    let first : take (p + 1) w ≡ back xs ++ (32 ∷ []) = spaced_is w p (back xs) 32 so.is l b in
+    let fits = sym (more_is m n xs so.counted) ∙ comes.1 in
+    let placed = so.placed in
+    let one = ap length space in
+    let is = ap (behind m) (so.is ∙ ap (λ l. back xs ++ l) space) in
     elim read [
-      | inl r ↦ record {
-        bytes = p + 1 + 2;
-        told = let t = r.0 in omega arith;
-        breaks = break_spaced (behind m w) (p + 1 + 2) m xs so.fit fits (take_behind m w (p + 1) ∙ ap (behind m) first) (omega arith)
-            (λ k. ap (step (spaced m xs)) (get_or_behind m w (p + 1)) ∙ spaced_stuck m xs (get_or w (p + 1) 0) (r.1 (omega arith)) (r.2 (omega arith)));
-      }
+      | inl r ↦ let told = r.0 in break_spaced (behind m w) t e.column m xs is (omega arith) so.fit fits (spaced_stuck m xs t r.1 r.2)
       | inr r ↦
-          let h = r.1 in
-          let second : take (p + 1 + 1) w ≡ back xs ++ (32 ∷ (45 ∷ [])) = spaced_is w (p + 1) (back xs ++ (32 ∷ [])) 45 first r.1 r.2 ∙ append_assoc (back xs) (32 ∷ []) (45 ∷ []) in
-          record {
-            bytes = p + 1 + 1 + 2;
-            told = let t = r.0 in omega arith;
-            breaks = break_minus (behind m w) (p + 1 + 1 + 2) m xs so.fit fits r.3 (take_behind m w (p + 1 + 1) ∙ ap (behind m) second) (omega arith)
-                (λ k. ap (step (minus m xs)) (get_or_behind m w (p + 1 + 1)) ∙ minus_stuck m xs (get_or w (p + 1 + 1) 0) (r.4 (omega arith)));
-          }
+          let told = r.2 in
+          break_minus (behind m w) r.0 e.column m xs (is ∙ ap (λ l. front m xs ++ (32 ∷ l)) r.1) (omega arith) so.fit fits r.3 (minus_stuck m xs r.0 r.4)
     ]
 
-pub rest_breaks : (i : ℕ) (w : List ℕ) (m : Mark) (p n : ℕ) (fs : List Field) → Sofar i w m p n fs → (p < length w → get_or w p 0 ≡ 32 → room_at m n ≡ false) → (p < length w → get_or w p 0 ≡ 10 → enough_at m n ≡ false) → Broken (behind m w) (p + 3)
-rest_breaks i w m p n fs so room ends =
+pub rest_breaks : {i : ℕ} {w : List ℕ} {m : Mark} {p n : ℕ} {fs : List Field} {s : List ℕ} (t : List ℕ) (e : BrokenLine) → Sofar i w m p n fs s → Another s p m n (Err e) t → Broken (behind m w) e.column
+rest_breaks {i} {w} {m} {p} {n} {fs} {s} t e so bars =
     let xs = so.xs in
-    let count = so.counted in
-    let within = so.within in
-    record {
-      bytes = p + 2;
-      told = omega arith;
-      breaks = break_rest (behind m w) (p + 2) m xs so.fit (take_behind m w p ∙ ap (behind m) so.is) (omega arith) (λ k.
-          let l : p < length w = omega arith in
-          ap (step (resting m xs)) (get_or_behind m w p) ∙ rest_stuck m xs w p l so.stops
-          (λ e. sym (room_more m xs) ∙ ap (room_at m) (sym count) ∙ room l e)
-          (λ e. sym (enough_same m xs) ∙ ap (enough_at m) (sym count) ∙ ends l e));
-    }
+    let told = bars.0 in
+    let placed = so.placed in
+    break_rest (behind m w) s e.column m xs (ap (behind m) so.is) (omega arith) so.fit
+    (rest_stuck m xs s so.stops (λ h. bars.1 (more_is m n xs so.counted ∙ h)) (λ h. bars.2 (enough_is m n xs so.counted ∙ h)))
 
-pub ends_so : (i : ℕ) (w : List ℕ) (m : Mark) (p n : ℕ) (fs : List Field) → length fs ≡ 25 → Sofar i w m p n fs → p < length w → get_or w p 0 ≡ 10 → enough_at m n ≡ true → ReadAs (behind m w) i (record { mark = m; count = n; fields = fs; end = p + 3 })
-ends_so i w m p n fs size so l b ends =
+pub ends_so : {i : ℕ} {w : List ℕ} {m : Mark} {p n : ℕ} (l : InlineList Field 25) {s : List ℕ} (t : List ℕ) (b : Bool) (q : ℕ) → Sofar i w m p n (items l) s → Another s p m n (Ok b) t → b ≡ false → q + length t ≡ p + length s → ReadAs (behind m w) i (record { mark = m; count = n; fields = l; end = q - 1 })
+ends_so {i} {w} {m} {p} {n} l {s} t b q so told branch moved =
+    let comes = end_comes s t p n m b told branch in
+    let byte = comes.0 in
+    let one = ap length byte in
+    let few = so.few in
     let xs = so.xs in
     let count = so.counted in
-    let e = whole m xs so.fit (sym (enough_same m xs) ∙ ap (enough_at m) (sym count) ∙ ends) in
-    let three : p + 3 ≡ p + 1 + 2 = omega arith in
+    let placed = so.placed in
+    let e = whole m xs so.fit (sym (enough_is m n xs count) ∙ comes.1) in
+    let is : behind m w ≡ (front m xs ++ (10 ∷ [])) ++ t = ap (behind m) (so.is ∙ ap (λ v. back xs ++ v) byte) ∙ sym (append_assoc (front m xs) (10 ∷ []) t) in
+    let long = length-append (front m xs) (10 ∷ []) in
+    let all = ap length is ∙ length-append (front m xs ++ (10 ∷ [])) t in
+    let back_long = length-reverse xs in
+    let numbered = ap length e.numbered in
+    let kept = so.fields.kept in
     record {
       of = e.of;
       begins = record {
         within = omega arith;
         right = e.right;
-        is = ap (λ k. take k (behind m w)) three ∙ take_behind m w (p + 1) ∙ ap (behind m) (spaced_is w p (back xs) 10 so.is l b) ∙ sym (ended_text m xs e);
+        is = ap (take (q - 1)) is ∙ take_at (front m xs ++ (10 ∷ [])) t (q - 1) (omega arith) ∙ sym (ended_text m xs e);
       };
       shows = record {
         marked = sym e.marked;
-        counted = count ∙ sym (length-reverse xs) ∙ ap length (sym e.numbered);
-        wide = size;
-        held = subst (Held i fs) (sym e.numbered) so.held;
+        counted = omega arith;
+        kept = omega arith;
+        held = subst (Held i (items l)) (sym e.numbered) so.fields.held;
       };
     }
-
--- a number moves the reader on
-pub moves_on : (s : List ℕ) (p q : ℕ) (t : Bool) (z : ℤ) → p ≤ length s → Number s p q t (Ok z) → p ≤ q
-moves_on s p q t z w read =
-    let l1 = ap length read.1 in
-    let l2 = length-append (take p s) (signed_decimal z) in
-    let l3 = length-take-le p s w in
-    let l4 = length-take-le q s read.0 in
-    omega arith
-
-pub length_put : (fs : List Field) (n : ℕ) (f : Field) → length (cond (ltb n 25) (set fs n f) fs) ≡ length fs
-length_put fs n f =
-    elim (cases_Bool (ltb n 25)) [ inl e ↦ ap length (cond-true (ltb n 25) (set fs n f) fs e) ∙ length-set fs n f | inr e ↦ ap length (cond-false (ltb n 25) (set fs n f) fs e) ]

@@ -1,17 +1,19 @@
 -- From the machine to what is written: where a line can go on, and where none can.
-use Rattle.std.proofs.Common.{◌≡◌, ℕ, ◌+◌, ◌<◌, ◌≤◌, true, List, [], ◌∷◌, ◌++◌, map, reverse, length, get_or, take, drop, ℤ, pos, negsuc, nat_abs, Some, None, Ok, Err, decimal, Option, Result, sym, refl, ap, ◌∙◌, subst, inl, inr, append_assoc, arith}
+use Rattle.std.proofs.Common.{◌≡◌, ℕ, ◌+◌, ◌<◌, ◌≤◌, true, List, [], ◌∷◌, ◌++◌, map, reverse, length, take, drop, ℤ, pos, negsuc, nat_abs, Some, None, Ok, Err, decimal, Option, Result, sym, refl, ap, ◌∙◌, subst, inl, inr, append_assoc, arith}
 use mathlib.Core.List.{reverse_aux}
 use Rattle.std.specs.List.{flat_map, AllByRecursion}
 use Rattle.std.proofs.lemmas.Bool.{false≢true, cases_order, cases_lt}
 use Rattle.std.proofs.lemmas.Fmt.{decimal_digit}
-use Rattle.std.proofs.lemmas.List.{take_more, append-nil, reverse-reverse, take-append-drop, take-take, length-append, length-take-le}
+use Rattle.std.proofs.Math.Seq.{take-append_seam, take-append-add}
+use Rattle.std.proofs.lemmas.List.{append-nil, reverse-reverse, take-append-drop, take-take, length-append, length-take-le}
 use Rattle.grammar.specs.declared.mark.Mark.{Mark}
 use Rattle.grammar.specs.declared.mark.Mark.TheVariants.{Steps, Standing, Place, Question}
 use Rattle.grammar.specs.Text.{Record, steps, standing, place, question, mark, numbers, letter, field, text, Short, Right}
+use Rattle.grammar.specs.declared.broken.BrokenLine.{BrokenLine}
 use Rattle.grammar.specs.declared.line.Line.{Line}
 use Rattle.grammar.specs.Lines.{Viable, GoesOn, Breaks, Begins, Broken, Shows, Answer, Told, Exactly, OneWay, Apart, OneBreak}
-use Rattle.grammar.specs.Reading.{signs}
-use Rattle.grammar.proofs.Machine.{State, start, lettered, resting, spaced, minus, ended, more, enough, when, step, and_then, goes, goes_on, Signed, reads_field}
+use Rattle.grammar.specs.Reading.{First, Signed, signs}
+use Rattle.grammar.proofs.Machine.{State, start, lettered, resting, spaced, minus, ended, more, enough, when, step, and_then, goes, goes_on, reads_field}
 
 -- the text of the numbers so far, the last one first in the list
 abbrev pub back : List ℤ → List ℕ
@@ -208,16 +210,24 @@ minus_goes_on : (m : Mark) (xs : List ℤ) → Fit m xs → more m xs ≡ true �
 minus_goes_on m xs f room sign =
     through m (negsuc 0) xs (32 ∷ (45 ∷ [])) [] 49 (f, room, omega arith, sign) (ap (λ l. 32 ∷ (45 ∷ l)) (decimal_digit 1 (omega arith)))
 
--- how a line breaks
-breaks : (s : List ℕ) (k : ℕ) (q : List ℕ) (σ : State) → take k s ≡ q → k ≤ length s → goes q start ≡ Some σ → GoesOn q → (k < length s → step σ (get_or s k 0) ≡ None) → Breaks s k
-breaks s k q σ e w h g bars = record {
-  within = w;
-  stands = subst GoesOn (sym e) g;
-  stuck = λ l v. stuck σ q h (get_or s k 0) (bars l) (subst Viable (take_more s k 0 l ∙ ap (λ p. p ++ (get_or s k 0 ∷ [])) e) v);
+-- how a line breaks: behind q, at a byte that the machine does not take
+breaks : (q r : List ℕ) (σ : State) → goes q start ≡ Some σ → GoesOn q → First (λ b. step σ b ≡ None) r → Breaks (q ++ r) (length q)
+breaks q [] σ h g bars = record {
+  within = let l1 = length-append q [] in omega arith;
+  stands = subst GoesOn (sym (take-append_seam q [])) g;
+  stuck = λ l. absurd (let l1 = length-append q [] in omega arith);
+}
+breaks q (b ∷ r) σ h g bars = record {
+  within = let l1 = length-append q (b ∷ r) in omega arith;
+  stands = subst GoesOn (sym (take-append_seam q (b ∷ r))) g;
+  stuck = λ l v. stuck σ q h b bars (subst Viable (take-append-add q (b ∷ r) 1) v);
 }
 
-pub break_start : (s : List ℕ) → (0 < length s → step start (get_or s 0 0) ≡ None) → Breaks s 0
-break_start s bars = breaks s 0 [] start refl (omega arith) refl start_goes_on bars
+pub break_at : (s q r : List ℕ) (c : ℕ) (σ : State) → s ≡ q ++ r → c ≡ length q + 1 → goes q start ≡ Some σ → GoesOn q → First (λ b. step σ b ≡ None) r → Broken s c
+break_at s q r c σ e told h g bars = record { bytes = length q; told = told; breaks = subst (λ v. Breaks v (length q)) (sym e) (breaks q r σ h g bars) }
+
+pub break_start : (s : List ℕ) → First (λ b. step start b ≡ None) s → Broken s 1
+break_start s bars = break_at s [] s 1 start refl refl refl start_goes_on bars
 
 letter_read : (m : Mark) → goes (letter m ∷ []) start ≡ Some (lettered m)
 letter_read Steps = refl
@@ -225,17 +235,19 @@ letter_read Standing = refl
 letter_read Place = refl
 letter_read Question = refl
 
-pub break_letter : (s : List ℕ) (m : Mark) → take 1 s ≡ letter m ∷ [] → 1 ≤ length s → (1 < length s → step (lettered m) (get_or s 1 0) ≡ None) → Breaks s 1
-break_letter s m e w bars = breaks s 1 (letter m ∷ []) (lettered m) e w (letter_read m) (letter_goes_on m) bars
+pub break_letter : (m : Mark) (r : List ℕ) → First (λ b. step (lettered m) b ≡ None) r → Broken (letter m ∷ r) 2
+break_letter m r bars = break_at (letter m ∷ r) (letter m ∷ []) r 2 (lettered m) refl refl (letter_read m) (letter_goes_on m) bars
 
-pub break_rest : (s : List ℕ) (k : ℕ) (m : Mark) (xs : List ℤ) → Fit m xs → take k s ≡ front m xs → k ≤ length s → (k < length s → step (resting m xs) (get_or s k 0) ≡ None) → Breaks s k
-break_rest s k m xs f e w bars = breaks s k (front m xs) (resting m xs) e w (reach m xs f) (rest_goes_on m xs f) bars
+pub break_rest : (s r : List ℕ) (c : ℕ) (m : Mark) (xs : List ℤ) → s ≡ front m xs ++ r → c ≡ length (front m xs) + 1 → Fit m xs → First (λ b. step (resting m xs) b ≡ None) r → Broken s c
+break_rest s r c m xs e told f bars = break_at s (front m xs) r c (resting m xs) e told (reach m xs f) (rest_goes_on m xs f) bars
 
 space_read : (m : Mark) (xs : List ℤ) → Fit m xs → more m xs ≡ true → goes (front m xs ++ (32 ∷ [])) start ≡ Some (spaced m xs)
 space_read m xs f room = goes_on (front m xs) (32 ∷ []) start (resting m xs) (reach m xs f) ∙ ap (λ t. and_then (when t (spaced m xs)) (goes [])) room
 
-pub break_spaced : (s : List ℕ) (k : ℕ) (m : Mark) (xs : List ℤ) → Fit m xs → more m xs ≡ true → take k s ≡ front m xs ++ (32 ∷ []) → k ≤ length s → (k < length s → step (spaced m xs) (get_or s k 0) ≡ None) → Breaks s k
-break_spaced s k m xs f room e w bars = breaks s k (front m xs ++ (32 ∷ [])) (spaced m xs) e w (space_read m xs f room) (spaced_goes_on m xs f room) bars
+pub break_spaced : (s r : List ℕ) (c : ℕ) (m : Mark) (xs : List ℤ) → s ≡ front m xs ++ (32 ∷ r) → c ≡ length (front m xs) + 2 → Fit m xs → more m xs ≡ true → First (λ b. step (spaced m xs) b ≡ None) r → Broken s c
+break_spaced s r c m xs e told f room bars =
+    let long = length-append (front m xs) (32 ∷ []) in
+    break_at s (front m xs ++ (32 ∷ [])) r c (spaced m xs) (e ∙ sym (append_assoc (front m xs) (32 ∷ []) r)) (omega arith) (space_read m xs f room) (spaced_goes_on m xs f room) bars
 
 minus_read : (m : Mark) (xs : List ℤ) → Fit m xs → more m xs ≡ true → signs m ≡ true → goes (front m xs ++ (32 ∷ (45 ∷ []))) start ≡ Some (minus m xs)
 minus_read m xs f room sign =
@@ -243,8 +255,10 @@ minus_read m xs f room sign =
     ∙ ap (λ t. and_then (when t (spaced m xs)) (goes (45 ∷ []))) room
     ∙ ap (λ t. and_then (when t (minus m xs)) (goes [])) sign
 
-pub break_minus : (s : List ℕ) (k : ℕ) (m : Mark) (xs : List ℤ) → Fit m xs → more m xs ≡ true → signs m ≡ true → take k s ≡ front m xs ++ (32 ∷ (45 ∷ [])) → k ≤ length s → (k < length s → step (minus m xs) (get_or s k 0) ≡ None) → Breaks s k
-break_minus s k m xs f room sign e w bars = breaks s k (front m xs ++ (32 ∷ (45 ∷ []))) (minus m xs) e w (minus_read m xs f room sign) (minus_goes_on m xs f room sign) bars
+pub break_minus : (s r : List ℕ) (c : ℕ) (m : Mark) (xs : List ℤ) → s ≡ front m xs ++ (32 ∷ (45 ∷ r)) → c ≡ length (front m xs) + 3 → Fit m xs → more m xs ≡ true → signs m ≡ true → First (λ b. step (minus m xs) b ≡ None) r → Broken s c
+break_minus s r c m xs e told f room sign bars =
+    let long = length-append (front m xs) (32 ∷ (45 ∷ [])) in
+    break_at s (front m xs ++ (32 ∷ (45 ∷ []))) r c (minus m xs) (e ∙ sym (append_assoc (front m xs) (32 ∷ (45 ∷ [])) r)) (omega arith) (minus_read m xs f room sign) (minus_goes_on m xs f room sign) bars
 
 -- the two laws that make the answer the only one
 front_viable : (s : List ℕ) (j k : ℕ) → j ≤ k → (r : Record) (t : List ℕ) → Right r → text r ≡ take k s ++ t → Viable (take j s)
@@ -288,17 +302,17 @@ same_line s r q j k a b =
     let l2 = sym (length-take-le k s b.within) ∙ ap length b.is in
     (same, l1 ∙ ap (λ w. length (text w)) same ∙ sym l2)
 
-told_right : (s : List ℕ) (i : ℕ) (a : Result Line ℕ) → Answer s i a → (r : Record) (k : ℕ) → Begins s r k → Told r k i a
+told_right : (s : List ℕ) (i : ℕ) (a : Result Line BrokenLine) → Answer s i a → (r : Record) (k : ℕ) → Begins s r k → Told r k i a
 told_right s i (Ok l) t r k b =
     let e = same_line s t.of r l.end k t.begins b in
     (e.1, subst (Shows i l) e.0 t.shows)
-told_right s i (Err c) t r k b = absurd (apart s r k t.bytes b t.breaks)
+told_right s i (Err e) t r k b = absurd (apart s r k t.bytes b t.breaks)
 
-told_broken : (s : List ℕ) (i : ℕ) (a : Result Line ℕ) → Answer s i a → (k : ℕ) → Breaks s k → a ≡ Err (k + 1)
+told_broken : (s : List ℕ) (i : ℕ) (a : Result Line BrokenLine) → Answer s i a → (k : ℕ) → Breaks s k → a ≡ Err (record { column = k + 1 })
 told_broken s i (Ok l) t k b = absurd (apart s t.of l.end k t.begins b)
-told_broken s i (Err c) t k b = ap Err (t.told ∙ ap (λ j. j + 1) (one_break s t.bytes k t.breaks b))
+told_broken s i (Err e) t k b = ap (λ j. Err (record { column = j })) (t.told ∙ ap (λ j. j + 1) (one_break s t.bytes k t.breaks b))
 
-pub exactly : (s : List ℕ) (i : ℕ) (a : Result Line ℕ) → Answer s i a → Exactly s i a
+pub exactly : (s : List ℕ) (i : ℕ) (a : Result Line BrokenLine) → Answer s i a → Exactly s i a
 exactly s i a t = record { right = told_right s i a t; broken = told_broken s i a t }
 
 -- a line that has a mark does not break in it, and it has one mark

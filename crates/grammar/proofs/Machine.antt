@@ -8,7 +8,7 @@ use Rattle.std.proofs.lemmas.Fmt.{decimal_by_steps}
 use Rattle.grammar.specs.declared.mark.Mark.{Mark}
 use Rattle.grammar.specs.declared.mark.Mark.TheVariants.{Steps, Standing, Place, Question}
 use Rattle.grammar.specs.Text.{field, Short}
-use Rattle.grammar.specs.Reading.{signs}
+use Rattle.grammar.specs.Reading.{Signed, signs}
 
 -- how far a line is read; of the numbers so far the last comes first
 pub data State : Type 0 where
@@ -118,11 +118,6 @@ reads_negative m xs n some small =
     in
     goes_on ds ((48 + k % 10) ∷ []) (minus m xs) _ (before (omega arith) (omega arith)) ∙ one_step (48 + k % 10) (resting m (negsuc (k / 10 - 1) ∷ xs)) _ (rest_digit m (negsuc (k / 10 - 1) ∷ xs) (k % 10) digit ∙ grow))
     n (omega arith) some small
-
--- a sign only where the mark has signs
-abbrev pub Signed : Mark → ℤ → Type 0
-Signed m (pos n) = Unit {0}
-Signed m (negsuc n) = signs m ≡ true
 
 pub reads_field : (m : Mark) (xs : List ℤ) (z : ℤ) → more m xs ≡ true → Short z → Signed m z → goes (field z) (resting m xs) ≡ Some (resting m (z ∷ xs))
 reads_field m xs (pos n) room small sign = ap (λ t. and_then (when t (spaced m xs)) (goes (decimal n))) room ∙ reads_natural m xs n small

@@ -15,8 +15,10 @@
 --   Answer s i a    what is told of the line that s begins with: the line, or the column at which it breaks
 --   Told r k i a    a tells the line of r, k bytes long
 --   Exactly s i a   nothing else could have been told: the line of r is read as r, and a break is told at its column
-use Rattle.std.specs.Prelude.{◌≡◌, ℕ, ◌+◌, ◌<◌, ◌≤◌, List, [], ◌∷◌, ◌++◌, length, take, ℤ, pos, Ok, Err, Result, slice_index_or}
+use Rattle.std.specs.Prelude.{◌≡◌, ℕ, ◌+◌, ◌<◌, ◌≤◌, min, List, [], ◌∷◌, ◌++◌, length, take, ℤ, pos, Ok, Err, Result, slice_index_or}
 use Rattle.std.specs.List.{flat_map}
+use Rattle.inline_list.specs.Items.{items}
+use Rattle.grammar.specs.declared.broken.BrokenLine.{BrokenLine}
 use Rattle.grammar.specs.declared.line.Field.{Field}
 use Rattle.grammar.specs.declared.line.Line.{Line}
 use Rattle.grammar.specs.declared.mark.Mark.{Mark}
@@ -68,25 +70,25 @@ Held number fields ns = (k : ℕ) → k < 25 → k < length ns → (d : Field) �
 pub record Shows (number : ℕ) (l : Line) (r : Record) : Type 0 where
   pub marked : l.mark ≡ mark r
   pub counted : l.count ≡ length (numbers r)
-  pub wide : length l.fields ≡ 25
-  pub held : Held number l.fields (numbers r)
+  pub kept : length (items l.fields) ≡ min (length (numbers r)) 25
+  pub held : Held number (items l.fields) (numbers r)
 
 pub record ReadAs (s : List ℕ) (number : ℕ) (l : Line) : Type 0 where
   pub of : Record
   pub begins : Begins s of l.end
   pub shows : Shows number l of
 
-abbrev pub Answer : List ℕ → ℕ → Result Line ℕ → Type 0
+abbrev pub Answer : List ℕ → ℕ → Result Line BrokenLine → Type 0
 Answer s number (Ok l) = ReadAs s number l
-Answer s number (Err column) = Broken s column
+Answer s number (Err e) = Broken s e.column
 
-abbrev pub Told : Record → ℕ → ℕ → Result Line ℕ → Type 0
+abbrev pub Told : Record → ℕ → ℕ → Result Line BrokenLine → Type 0
 Told r k number (Ok l) = (l.end ≡ k) × Shows number l r
-Told r k number (Err column) = ⊥
+Told r k number (Err e) = ⊥
 
-pub record Exactly (s : List ℕ) (number : ℕ) (a : Result Line ℕ) : Type 0 where
+pub record Exactly (s : List ℕ) (number : ℕ) (a : Result Line BrokenLine) : Type 0 where
   pub right : (r : Record) (k : ℕ) → Begins s r k → Told r k number a
-  pub broken : (k : ℕ) → Breaks s k → a ≡ Err (k + 1)
+  pub broken : (k : ℕ) → Breaks s k → a ≡ Err (record { column = k + 1 })
 
 -- a line of one record begins no line of another
 abbrev pub OneWay : Type 0

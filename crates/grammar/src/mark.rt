@@ -1,8 +1,10 @@
 // The marks that open lines. A mark is a letter and a colon, and says what its line can hold.
-ghost use Rattle.std.specs.Prelude.{◌≡◌, ◌<◌, ◌≤◌, length, MatchOption, MatchResult, ◌≢◌};
+ghost use Rattle.std.specs.Prelude.{◌≡◌, ◌<◌, length, MatchOption, MatchResult, ◌≢◌};
 ghost use Rattle.grammar.specs.Text.{letter};
-ghost use Rattle.grammar.specs.Lines.{Broken, Opened, Unmarked};
+ghost use Rattle.grammar.specs.Lines.{Opened, Unmarked};
 ghost use Rattle.grammar.specs.Reading.{room_at, enough_at, signs};
+
+use crate::BrokenLine;
 
 #[derive(Clone, Copy, Debug, PartialEq)]
 pub enum Mark {
@@ -49,7 +51,7 @@ impl Mark {
     }
 }
 
-// The mark that the letter begins.
+// The mark that the letter begins. Where it begins none, the fault is its column, which only the caller knows: no TryFrom.
 fn mark_of(first: u8) -> Option<Mark>
     ensures { MatchOption result ((m : Mark) → first ≢ letter m) (λ m. first ≡ letter m) }
 {
@@ -63,18 +65,17 @@ fn mark_of(first: u8) -> Option<Mark>
 }
 
 // Where a line that is cut in its mark breaks.
-fn cut_mark(line: &[u8]) -> usize
+fn cut_mark(line: &[u8]) -> BrokenLine
     requires { length line.now < 2 }
-    ensures breaks { Broken line.now result }
-    ensures early { result ≤ 2 }
+    ensures { Unmarked line.now result.column }
 {
     let [first, ..] = line else {
-        return 1;
+        return BrokenLine { column: 1 };
     };
     let Some(_) = mark_of(*first) else {
-        return 1;
+        return BrokenLine { column: 1 };
     };
-    2
+    BrokenLine { column: 2 }
 }
 
 // A line cut behind its mark.
@@ -85,17 +86,17 @@ pub struct Opening<'a> {
 }
 
 // The mark that the bytes begin with, and the bytes behind it, or the column at which no line can go on.
-pub fn read_mark<'a>(line: &'a [u8]) -> Result<Opening<'a>, usize>
-    ensures { MatchResult result (λ o. Opened line.now o.mark o.rest.now) (λ column. Unmarked line.now column) }
+pub fn read_mark<'a>(line: &'a [u8]) -> Result<Opening<'a>, BrokenLine>
+    ensures { MatchResult result (λ o. Opened line.now o.mark o.rest.now) (λ e. Unmarked line.now e.column) }
 {
     let [a, b, rest @ ..] = line else {
         return Err(cut_mark(line));
     };
     let Some(mark) = mark_of(*a) else {
-        return Err(1);
+        return Err(BrokenLine { column: 1 });
     };
     if *b != b':' {
-        return Err(2);
+        return Err(BrokenLine { column: 2 });
     }
     Ok(Opening { mark, rest })
 }

@@ -1,112 +1,102 @@
 // Reads the numbers of a line, from the bytes behind its mark on.
-ghost use Rattle.std.specs.Prelude.{◌≡◌, ◌+◌, ◌<◌, ◌≤◌, length, MatchOption, slice_index};
-ghost use Rattle.grammar.specs.Reading.{NoDigit, Digits, Number, Next};
+ghost use Rattle.std.specs.Prelude.{◌≡◌, ◌+◌, ◌^◌, ◌<◌, length};
+ghost use Rattle.grammar.specs.Reading.{Passed, Digit, Digits, Number, Another};
 
-use crate::Mark;
+use crate::{BrokenLine, Mark};
 
-// What stands behind the mark or a number.
-#[derive(Clone, Copy, Debug, PartialEq)]
-pub(crate) enum Part {
-    Another,
-    End,
-    Nothing,
-}
-
-// The value of the digit at i.
-fn digit_at(bytes: &[u8], i: usize) -> Option<u32>
-    ensures { MatchOption result (NoDigit bytes.now i) (λ d. (i < length bytes.now) × (slice_index bytes.now i ≡ 48 + d) × (d < 10)) }
-{
-    if i >= bytes.len() {
-        return None;
-    }
-    let b = bytes[i];
-    if b < b'0' || b > b'9' {
-        return None;
-    }
-    Some((b - b'0') as u32)
-}
-
-// The bytes behind a mark, and how many of them have been read.
+// The bytes of a line that have not been read yet.
 #[derive(Drop)]
 pub(crate) struct Reader<'a> {
-    pub(crate) bytes: &'a [u8],
-    pub(crate) position: usize,
+    pub(crate) rest: &'a [u8],
+    // The column of the first of them, from 1.
+    pub(crate) column: usize,
+    ghost within: { column + length rest.now < 2 ^ 64 },
 }
 
 impl<'a> Reader<'a> {
-    // What can come here, after so many numbers of a line with this mark.
-    pub(crate) fn next_part(&self, mark: Mark, count: usize) -> Part
-        ensures { Next self.now.bytes.now self.now.position mark count result }
+    // The fault that no line can go on here.
+    fn broken(&self) -> BrokenLine
+        ensures { result.column ≡ self.now.column }
     {
-        let bytes = self.bytes;
-        let at = self.position;
-        if at >= bytes.len() {
-            return Part::Nothing;
+        BrokenLine {
+            column: self.column,
         }
-        match bytes[at] {
-            b' ' => {
-                if mark.has_room(count) {
-                    Part::Another
-                } else {
-                    Part::Nothing
-                }
-            }
-            b'\n' => {
-                if mark.can_end(count) {
-                    Part::End
-                } else {
-                    Part::Nothing
-                }
-            }
-            _ => Part::Nothing,
+    }
+
+    // Goes past the byte, where it comes next.
+    fn passes(&mut self, byte: u8) -> bool
+        ensures column { self.new.column + length self.new.rest.now ≡ self.old.column + length self.old.rest.now }
+        ensures passed { Passed self.old.rest.now byte result self.new.rest.now }
+    {
+        let [first, rest @ ..] = self.rest else {
+            return false;
+        };
+        if *first != byte {
+            return false;
         }
+        self.rest = rest;
+        self.column += 1;
+        true
+    }
+
+    // Goes past a digit, where one comes next, and tells it.
+    fn digit(&mut self) -> Option<u32>
+        ensures column { self.new.column + length self.new.rest.now ≡ self.old.column + length self.old.rest.now }
+        ensures read { Digit self.old.rest.now result self.new.rest.now }
+    {
+        let [digit @ b'0'..=b'9', rest @ ..] = self.rest else {
+            return None;
+        };
+        self.rest = rest;
+        self.column += 1;
+        Some((*digit - b'0') as u32)
     }
 
     // The value of the digits here, as many as one number can have.
     fn digits(&mut self) -> Option<u32>
-        requires { self.old.position ≤ length self.old.bytes.now }
-        ensures bytes { self.new.bytes.now ≡ self.old.bytes.now }
-        ensures read { Digits self.old.bytes.now self.old.position self.new.position result }
+        ensures column { self.new.column + length self.new.rest.now ≡ self.old.column + length self.old.rest.now }
+        ensures read { Digits self.old.rest.now result self.new.rest.now }
     {
-        let bytes = self.bytes;
-        let mut at = self.position;
-        let Some(first) = digit_at(bytes, at) else {
-            return None;
-        };
-        let mut value = first;
-        at += 1;
+        let mut value = self.digit()?;
         while value > 0 && value <= 999_999 {
-            let Some(digit) = digit_at(bytes, at) else {
+            let Some(digit) = self.digit() else {
                 break;
             };
             value = value * 10 + digit;
-            at += 1;
         }
-        self.position = at;
         Some(value)
     }
 
-    // The number here, with a minus only where `minus` allows it, or the column at which none can go on.
-    pub(crate) fn number(&mut self, minus: bool) -> Result<i32, usize>
-        requires { self.old.position ≤ length self.old.bytes.now }
-        ensures bytes { self.new.bytes.now ≡ self.old.bytes.now }
-        ensures read { Number self.old.bytes.now self.old.position self.new.position minus result }
+    // The number here, with a minus only where the mark allows it.
+    pub(crate) fn number(&mut self, mark: Mark) -> Result<i32, BrokenLine>
+        ensures column { self.new.column + length self.new.rest.now ≡ self.old.column + length self.old.rest.now }
+        ensures read { Number self.old.rest.now self.old.column mark result self.new.rest.now }
     {
-        let bytes = self.bytes;
-        let start = self.position;
-        if !minus || start >= bytes.len() || bytes[start] != b'-' {
-            let Some(value) = self.digits() else {
-                return Err(start + 3);
-            };
+        let minus = mark.has_signs() && self.passes(b'-');
+        let broken = self.broken();
+        let Some(value) = self.digits() else {
+            return Err(broken);
+        };
+        if !minus {
             return Ok(value as i32);
         }
-        self.position = start + 1;
-        let Some(value) = self.digits() else {
-            return Err(start + 4);
-        };
         if value == 0 {
-            return Err(start + 4);
+            return Err(broken);
         }
         Ok(-(value as i32))
+    }
+
+    // Goes past the space before another number, or past byte 10, which ends the line; tells whether a number comes.
+    pub(crate) fn another(&mut self, mark: Mark, count: usize) -> Result<bool, BrokenLine>
+        ensures column { self.new.column + length self.new.rest.now ≡ self.old.column + length self.old.rest.now }
+        ensures told { Another self.old.rest.now self.old.column mark count result self.new.rest.now }
+    {
+        if mark.has_room(count) && self.passes(b' ') {
+            return Ok(true);
+        }
+        if mark.can_end(count) && self.passes(b'\n') {
+            return Ok(false);
+        }
+        Err(self.broken())
     }
 }
