@@ -1,5 +1,5 @@
 -- A question of a line, and the answer that the sheet gives to it.
-use Rattle.std.proofs.Common.{◌≡◌, ℕ, ◌≤◌, cond, not, eqb, ltb, List, [], ◌∷◌, length, take, drop, ℤ, Ok, Err, codes, Result, sym, refl, ap, ◌∙◌, subst, inl, inr, arith}
+use Rattle.std.proofs.Common.{◌≡◌, ℕ, ◌≤◌, cond, not, eqb, ltb, List, length, take, drop, ℤ, Ok, Err, Result, sym, refl, ap, ◌∙◌, subst, inl, inr, arith}
 use Rattle.std.proofs.lemmas.Bool.{cond-true, cond-false, ne_eqb, le-ltb, cases_lt, cases_eq}
 use Rattle.std.proofs.lemmas.List.{take_all, take_at, length-take-le}
 use Rattle.ledger.specs.declared.Ledger.{Ghosts as Kind}
@@ -9,17 +9,17 @@ use Rattle.cycle_theory.specs.Questions.{Right}
 use Rattle.cycle_theory.proofs.WalkingNets.{outcome_right}
 use Rattle.method.specs.Effects.{some}
 use Rattle.sheet.specs.declared.answer.Answer.{Answer}
-use Rattle.sheet.specs.declared.answer.Answer.TheVariants.{Certified, Broken, TooLarge}
+use Rattle.sheet.specs.declared.answer.Answer.TheVariants.{Certified}
 use Rattle.sheet.specs.declared.fault.SheetFault.{SheetFault}
 use Rattle.sheet.specs.declared.fault.SheetFault.TheVariants.{Length, Count, ListTooShort}
 use Rattle.sheet.specs.declared.sheets.ClosedSheet.{ClosedSheet}
 use Rattle.sheet.specs.Verdict as verdict
 use Rattle.sheet.specs.Sheets.{closed_list, places_in}
-use Rattle.sheet.specs.Answers.{answer_number, answer_place, answer_of, coefficients_in}
+use Rattle.sheet.specs.Answers.{answer_of, coefficients_in}
 use Rattle.sheet.specs.Certifying.{large, first_large, asking, unless_refused, list_after, Certifying}
 use Rattle.grammar.specs.Text.{Record}
 use Rattle.netfile.specs.Files.{steps_of, places_of, asked}
-use Rattle.netfile.specs.Printouts.{line, outcome_line}
+use Rattle.netfile.specs.Printouts.{outcome_line}
 use Rattle.netfile.specs.Reading.{ClosedOf, answer_line, judged_line}
 use Rattle.netfile.proofs.Verdicts.{asked_wrong_length}
 use Rattle.netfile.proofs.Listing.{listed_rows}
@@ -61,15 +61,15 @@ tells_outcome n places x (broken place) list right = refl
 tells_outcome n places x too_large list right = refl
 tells_outcome n places x stuck list right = refl
 
-module _ {L : Type 0} (k : Kind L) (c : ClosedSheet L) (rs : List Record) (of : ClosedOf k c rs) (counts x list : List ℕ) (front : x ≡ take 25 counts) (room : length (closed_list k c) ≤ length list) (r : Result Answer SheetFault) (list' : List ℕ) (told : Certifying k c.steps.n (places_in c) c.rows x list r list') where
+module _ {L : Type 0} {k : Kind L} (c : ClosedSheet L k) (rs : List Record) (of : ClosedOf c rs) (counts x list : List ℕ) (front : x ≡ take 25 counts) (room : length (closed_list c) ≤ length list) (r : Result Answer SheetFault) (list' : List ℕ) (told : Certifying c.steps.n (places_in c) x list r list') where
   abbrev n : ℕ
   n = c.steps.n
 
   abbrev rows : List (List ℕ)
   rows = tss n (places_in c)
 
-  listed : closed_list k c ≡ rows
-  listed = listed_rows k c of.sound
+  listed : closed_list c ≡ rows
+  listed = listed_rows c
 
   asked_so : asking n (length rows) x (length list) ≡ asked (steps_of rs) counts
   asked_so =
@@ -77,21 +77,20 @@ module _ {L : Type 0} (k : Kind L) (c : ClosedSheet L) (rs : List Record) (of : 
       ap (λ y. asking n (length rows) y (length list)) front ∙ asking_front n (length rows) counts (length list) few (subst (λ l. length l ≤ length list) listed room) ∙ ap (λ m. asked m counts) of.steps
 
   pub question_refused : (fault : SheetFault) → r ≡ Err fault → asked (steps_of rs) counts ≡ Err fault
-  question_refused fault e = sym asked_so ∙ refused_from _ _ fault (sym (told.answered of.sound) ∙ e)
+  question_refused fault e = sym asked_so ∙ refused_from _ _ fault (sym told.answered ∙ e)
 
-  pub question_answered : (answer : Answer) → r ≡ Ok answer → (asked (steps_of rs) counts ≡ Ok tt) × (judged_line (length (closed_list k c)) (record { answer = answer; coefficients = list' }) ≡ outcome_line (outcome (places_of rs) (closed_list k c) counts))
+  pub question_answered : (answer : Answer) → r ≡ Ok answer → (asked (steps_of rs) counts ≡ Ok tt) × (judged_line (length (closed_list c)) (record { answer = answer; coefficients = list' }) ≡ outcome_line (outcome (places_of rs) (closed_list c) counts))
   question_answered answer e =
-      let sound = of.sound in
-      let parts = answered_from _ _ answer (sym (told.answered sound) ∙ e) in
+      let parts = answered_from _ _ answer (sym told.answered ∙ e) in
       let done : asked (steps_of rs) counts ≡ Ok tt = sym asked_so ∙ parts.0 in
       let few = c.steps.few.1 in
       let long : length counts ≡ n = asked_right_length (steps_of rs) counts done ∙ sym of.steps in
       let whole : x ≡ counts = front ∙ take_all 25 counts (omega arith) in
       let o = outcome (places_in c) rows x in
       let right : Right n (places_in c) x o = outcome_right n (places_in c) x (ap length whole ∙ long) in
-      let left : list' ≡ list_after (coefficients_in o) list (Ok (answer_of o)) = told.left sound ∙ ap (list_after (coefficients_in o) list) (e ∙ ap Ok parts.1) in (
+      let left : list' ≡ list_after (coefficients_in o) list (Ok (answer_of o)) = told.left ∙ ap (list_after (coefficients_in o) list) (e ∙ ap Ok parts.1) in (
         done,
-        ap (λ a. answer_line a (take (length (closed_list k c)) list')) parts.1
+        ap (λ a. answer_line a (take (length (closed_list c)) list')) parts.1
             ∙ ap (λ l. answer_line (answer_of o) (take (length l) list')) listed
             ∙ ap (λ l. answer_line (answer_of o) (take (length rows) l)) left
             ∙ tells_outcome n (places_in c) x o list right
@@ -99,9 +98,3 @@ module _ {L : Type 0} (k : Kind L) (c : ClosedSheet L) (rs : List Record) (of : 
             ∙ ap (λ A. outcome_line (outcome A rows counts)) of.places
             ∙ ap (λ l. outcome_line (outcome (places_of rs) l counts)) (sym listed),
       )
-
--- the line of an answer that is no certificate
-pub no_certificate : (a : Answer) (coefficients : List ℕ) → ((t : ℕ) → a ≡ Certified t → ⊥) → answer_line a coefficients ≡ line (codes "R:") (answer_number a ∷ answer_place a ∷ [])
-no_certificate (Certified t) coefficients h = absurd (h t refl)
-no_certificate (Broken place) coefficients h = refl
-no_certificate TooLarge coefficients h = refl

@@ -1,87 +1,48 @@
 -- A file that is read up to a line, and each way on from there.
-use Rattle.std.proofs.Common.{◌≡◌, ℕ, ◌+◌, ◌-◌, ◌<◌, ◌≤◌, Bool, true, false, ◌&&◌, ltb, leb, ◌⊎◌, List, [], ◌∷◌, ◌++◌, length, get_or, take, drop, pos, Some, Ok, Err, Option, sym, ap, ◌∙◌, subst, inl, inr, arith}
-use Rattle.std.specs.List.{flat_map}
-use Rattle.std.proofs.lemmas.List.{take-append-drop, take-take, drop-take, take_all, length-take-le, length-drop, length-append}
-use Rattle.std.proofs.lemmas.Bool.{cond-true, cond-false, cases_Bool, cases_lt, and_parts, leb-true, ltb-true, le-leb, lt-leb}
+use Rattle.std.proofs.Common.{◌≡◌, ℕ, ◌+◌, ◌-◌, ◌<◌, ◌≤◌, ◌&&◌, leb, ◌⊎◌, List, [], ◌∷◌, ◌++◌, length, get_or, drop, pos, Some, None, Ok, Err, Option, sym, refl, ap, ◌∙◌, subst, inl, inr, append_assoc, arith}
+use Rattle.std.proofs.lemmas.List.{take-append-drop, append-nil}
+use Rattle.std.proofs.lemmas.Bool.{cond-true, cond-false, cases_Bool, and_parts, leb-true}
+use Rattle.inline_list.specs.Items.{items}
 use Rattle.ledger.specs.declared.Ledger.{Ghosts as Kind}
 use Rattle.sheet.specs.declared.fault.SheetFault.{SheetFault}
 use Rattle.sheet.specs.Faults.{bracket}
 use Rattle.grammar.specs.declared.mark.Mark.{Mark}
 use Rattle.grammar.specs.declared.line.Field.{Field}
 use Rattle.grammar.specs.declared.line.Line.{Line}
-use Rattle.grammar.specs.Text.{Record, mark, numbers, field, text}
-use Rattle.grammar.specs.Lines.{ReadAs, Begins, Shows, field_in}
+use Rattle.grammar.specs.Text.{Record, mark, numbers, text}
+use Rattle.grammar.specs.Lines.{Shows, field_in}
 use Rattle.netfile.specs.declared.fault.FileFault.{FileFault}
 use Rattle.netfile.specs.declared.fault.FileFault.TheVariants.{BufferTooShort, Grammar, Order, TooLong, TooManyQuestions, Sheet}
 use Rattle.netfile.specs.declared.fault.RunFault.{RunFault}
+use Rattle.netfile.specs.declared.reader.Reader.{Reader}
 use Rattle.netfile.specs.Order.{asks, May, nearest, questions}
-use Rattle.netfile.specs.Files.{written, answer, Accepted, LineFault, column_of, Why, FirstFault, RightFile}
-use Rattle.netfile.specs.Reading.{Upto, Advanced, place_in, held_in}
-
--- a line has some bytes
-some_bytes : (s : List ℕ) (r : Record) (k : ℕ) → Begins s r k → 2 < k
-some_bytes s r k b =
-    let long = sym (length-take-le k s b.within) ∙ ap length b.is in
-    let more = length-append (flat_map field (numbers r)) (10 ∷ []) in
-    omega arith
-
-take_add : (s : List ℕ) (i k : ℕ) → take (i + k) s ≡ take i s ++ take k (drop i s)
-take_add s i k =
-    sym (take-append-drop i (take (i + k) s)) ∙ ap (λ l. l ++ drop i (take (i + k) s)) (take-take i (i + k) s (omega arith)) ∙ ap (λ l. take i s ++ l) (drop-take i k s)
-
--- no file has more lines than bytes
-fewer_lines : (rs : List Record) → length rs ≤ length (written rs)
-fewer_lines [] = omega arith
-fewer_lines (r ∷ rs) =
-    let before = fewer_lines rs in
-    let long = length-append (written rs) (text r) in
-    omega arith
+use Rattle.netfile.specs.Files.{written, answer, LineFault, column_at, column_of, Why, FirstFault, RightFile}
+use Rattle.netfile.specs.Reading.{Unbegun, Stopped, Comes, Advanced, Upto, place_of, place_at}
 
 module _ {L : Type 0} (k : Kind L) where
-  few_questions : (rs : List Record) → Accepted k rs → questions rs ≤ 16
-  few_questions [] a = omega arith
-  few_questions (r ∷ rs) a = a.2.1
+  -- nothing has been read
+  pub upto_start : (s : List ℕ) (r : Reader) → Unbegun s r → Upto k s r []
+  upto_start s r b = record { is = sym b.rest_is; accepted = tt; counted = b.lines_is; near = b.before_is; asked = b.questions_is }
 
-  module _ (s : List ℕ) (at lines : ℕ) (b : Option Mark) (n : ℕ) (rs : List Record) (u : Upto k s at lines b n rs) where
-    pub upto_lines : lines ≤ at
-    upto_lines =
-        let count = u.counted in
-        let few = fewer_lines rs in
-        let long = sym (length-take-le at s u.within) ∙ ap length u.is in
-        omega arith
-
-    pub upto_few : n ≤ 16
-    upto_few = subst (λ m. m ≤ 16) (sym u.asked) (few_questions rs u.accepted)
-
-    pub upto_may : (m : Mark) → May b n m → May (nearest rs) (questions rs) m
-    upto_may m may = subst (λ q. May (nearest rs) q m) u.asked (subst (λ p. May p n m) u.near may)
+  module _ {s : List ℕ} {r : Reader} {rs : List Record} (u : Upto k s r rs) where
+    pub upto_may : (m : Mark) → May r.before r.questions m → May (nearest rs) (questions rs) m
+    upto_may m may = subst (λ q. May (nearest rs) q m) u.asked (subst (λ p. May p r.questions m) u.near may)
 
     -- one accepted line more
-    pub upto_next : (l : Line) (t : ReadAs (drop at s) (lines + 1) l) → May b n l.mark → answer k rs t.of ≡ Ok tt → (at' lines' : ℕ) (b' : Option Mark) (n' : ℕ) → Advanced l at lines n at' lines' b' n' → Upto k s at' lines' b' n' (t.of ∷ rs)
-    upto_next l t may done at' lines' b' n' a =
-        let same : l.mark ≡ mark t.of = t.shows.marked in
-        let long = length-drop at s in
-        let inside = t.begins.within in
-        let within = u.within in
-        let on = a.at_is in
+    pub upto_next : (l : Line) (t : Reader) (a : Advanced r l t) → answer k rs a.comes.0.of ≡ Ok tt → Upto k s t (a.comes.0.of ∷ rs)
+    upto_next l t a done =
+        let x = a.comes.0 in
+        let same : l.mark ≡ mark x.of = x.shows.marked in
         record {
-          within = omega arith;
-          is = ap (λ i. take i s) a.at_is ∙ take_add s at l.end ∙ ap (λ w. w ++ take l.end (drop at s)) u.is ∙ ap (λ w. written rs ++ w) t.begins.is;
-          accepted = (u.accepted, t.begins.right, subst (May (nearest rs) (questions rs)) same (upto_may l.mark may), done);
+          is = u.is ∙ ap (λ w. written rs ++ w) (sym (take-append-drop l.end r.rest.now) ∙ ap (λ w. w ++ drop l.end r.rest.now) x.begins.is ∙ ap (λ w. text x.of ++ w) (sym a.rest_is)) ∙ sym (append_assoc (written rs) (text x.of) t.rest.now);
+          accepted = (u.accepted, x.begins.right, subst (May (nearest rs) (questions rs)) same (upto_may l.mark a.comes.1), done);
           counted = a.lines_is ∙ ap (λ i. i + 1) u.counted ∙ omega arith;
           near = a.before_is ∙ ap Some same;
           asked = a.questions_is ∙ ap (λ q. q + asks l.mark) u.asked ∙ ap (λ m. questions rs + asks m) same;
         }
 
-    -- the file goes on after the line
-    pub upto_further : (l : Line) (t : ReadAs (drop at s) (lines + 1) l) → at < at + l.end
-    upto_further l t = let some = some_bytes (drop at s) t.of l.end t.begins in omega arith
-
-    split_here : s ≡ written rs ++ drop at s
-    split_here = sym (take-append-drop at s) ∙ ap (λ l. l ++ drop at s) u.is
-
     -- a line that is refused before the sheet sees it
-    why_line : (column : ℕ) (fault : FileFault) → LineFault (nearest rs) (questions rs) (drop at s) column fault → Why k rs (drop at s) column fault
+    why_line : (column : ℕ) (fault : FileFault) → LineFault (nearest rs) (questions rs) r.rest.now column fault → Why k rs r.rest.now column fault
     why_line column Order h = h
     why_line column TooManyQuestions h = h
     why_line column Grammar h = h
@@ -89,81 +50,68 @@ module _ {L : Type 0} (k : Kind L) where
     why_line column TooLong h = h
     why_line column (Sheet fault) h = absurd h
 
-    pub line_fault : (f : RunFault) → f.line ≡ lines + 1 → LineFault b n (drop at s) f.column f.fault → FirstFault k s f
-    line_fault f here h = record {
+    pub line_fault : (f : RunFault) → Stopped r f → FirstFault k s f
+    line_fault f h = record {
       before = rs;
-      rest = drop at s;
-      is = split_here;
+      rest = r.rest.now;
+      column = h.column;
+      is = u.is;
       accepted = u.accepted;
-      line = here ∙ ap (λ i. i + 1) u.counted;
-      why = why_line f.column f.fault (subst (λ q. LineFault (nearest rs) q (drop at s) f.column f.fault) u.asked (subst (λ p. LineFault p n (drop at s) f.column f.fault) u.near h));
+      told = h.told ∙ ap (λ (i : ℕ). Some (record { line = i + 1; column = h.column })) u.counted;
+      why = why_line h.column f.fault (subst (λ q. LineFault (nearest rs) q r.rest.now h.column f.fault) u.asked (subst (λ p. LineFault p r.questions r.rest.now h.column f.fault) u.near h.why));
     }
 
     -- a line that the sheet refuses
-    pub sheet_fault : (l : Line) (t : ReadAs (drop at s) (lines + 1) l) → May b n l.mark → (fault : SheetFault) (f : RunFault) → answer k rs t.of ≡ Err fault → f.fault ≡ Sheet fault → f.line ≡ lines + 1 → f.column ≡ column_of t.of fault → FirstFault k s f
-    sheet_fault l t may fault f refused is here column = record {
+    pub sheet_fault : (l : Line) (x : Comes r l) (fault : SheetFault) (column : ℕ) → answer k rs x.0.of ≡ Err fault → column ≡ column_of x.0.of fault → FirstFault k s (record { fault = Sheet fault; at = Some (record { line = r.lines + 1; column = column }) })
+    sheet_fault l x fault column refused told = record {
       before = rs;
-      rest = drop at s;
-      is = split_here;
+      rest = r.rest.now;
+      column = column;
+      is = u.is;
       accepted = u.accepted;
-      line = here ∙ ap (λ i. i + 1) u.counted;
-      why = subst (Why k rs (drop at s) f.column) (sym is) (record {
-        of = t.of;
+      told = ap (λ (i : ℕ). Some (record { line = i + 1; column = column })) u.counted;
+      why = record {
+        of = x.0.of;
         end = l.end;
-        begins = t.begins;
-        may = subst (May (nearest rs) (questions rs)) t.shows.marked (upto_may l.mark may);
+        begins = x.0.begins;
+        may = subst (May (nearest rs) (questions rs)) x.0.shows.marked (upto_may l.mark x.1);
         refused = refused;
-        told = column;
-      });
+        told = told;
+      };
     }
 
-    pub upto_end : length s ≤ at → 0 < length rs → RightFile k s rs
-    upto_end h some = record { is = sym (take_all at s h) ∙ u.is; accepted = u.accepted; some = some }
+    pub upto_end : r.rest.now ≡ [] → 0 < length rs → RightFile k s rs
+    upto_end e some = record { is = u.is ∙ ap (λ w. written rs ++ w) e ∙ append-nil (written rs); accepted = u.accepted; some = some }
 
 -- where a fault of the sheet is told
-module _ (i : ℕ) (l : Line) (of : Record) (shows : Shows i l of) (fault : SheetFault) (small : (bracket fault ≤ 25) ⊎ (length (numbers of) ≤ 25)) where
-  abbrev none : Field
-  none = record { line = 0; column = 0; value = pos 0 }
-
+module _ (i : ℕ) (l : Line) (of : Record) (shows : Shows i l of) where
   abbrev start : Field
   start = record { line = i; column = 1; value = pos 0 }
 
-  abbrev step : ℕ
-  step = bracket fault
-
-  -- the step is among those of the line exactly when it is among those at hand
-  same_bound : leb step (held_in l) ≡ leb step (length (numbers of))
-  same_bound =
-      let count = shows.counted in
-      elim small [
-        | inl few ↦ elim (cases_lt (length (numbers of)) step) [
-          | inl past ↦ lt-leb step (held_in l) (omega arith) ∙ sym (lt-leb step (length (numbers of)) past)
-          | inr in-it ↦ le-leb step (held_in l) (omega arith) ∙ sym (le-leb step (length (numbers of)) in-it)
-        ]
-        | inr short ↦ let all : held_in l ≡ length (numbers of) = omega arith in ap (leb step) all
+  -- a step that is named, where all numbers of the line are kept
+  step_told : (step : ℕ) → length (numbers of) ≤ 25 → place_at (items l.fields) i (Some step) ≡ record { line = i; column = column_at (numbers of) (Some step) }
+  step_told step short =
+      let kept = shows.kept in
+      let size : length (items l.fields) ≡ length (numbers of) = omega arith in
+      let inside = leb 1 step && leb step (length (numbers of)) in
+      let test : (leb 1 step && leb step (length (items l.fields))) ≡ inside = ap (λ (n : ℕ). leb 1 step && leb step n) size in
+      elim (cases_Bool inside) [
+        | inl e ↦
+            let parts = and_parts (leb 1 step) (leb step (length (numbers of))) e in
+            let some = leb-true 1 step parts.0 in
+            let few = leb-true step (length (numbers of)) parts.1 in
+            cond-true _ (place_of (get_or (items l.fields) (step - 1) start)) (place_of start) (test ∙ e)
+            ∙ ap (λ (f : Field). place_of f) (shows.held (step - 1) (omega arith) (omega arith) start)
+            ∙ ap (λ (c : ℕ). record { line = i; column = c }) (sym (cond-true inside (field_in 0 (numbers of) (step - 1)).column 1 e))
+        | inr e ↦
+            cond-false _ (place_of (get_or (items l.fields) (step - 1) start)) (place_of start) (test ∙ e)
+            ∙ ap (λ (c : ℕ). record { line = i; column = c }) (sym (cond-false inside (field_in 0 (numbers of) (step - 1)).column 1 e))
       ]
 
-  abbrev named : Bool
-  named = ltb 0 step && leb step (held_in l)
+  place_told : (named : Option ℕ) → (named ≡ None) ⊎ (length (numbers of) ≤ 25) → place_at (items l.fields) i named ≡ record { line = i; column = column_at (numbers of) named }
+  place_told None few = refl
+  place_told (Some step) few =
+      elim few [ inl none ↦ let z : ◌≡◌ {A = ℕ} 0 1 = cc in absurd (omega arith) | inr short ↦ step_told step short ]
 
-  field_named : named ≡ true → place_in l i (Sheet fault) ≡ field_in i (numbers of) (step - 1)
-  field_named e =
-      let parts = and_parts (ltb 0 step) (leb step (held_in l)) e in
-      let some = ltb-true 0 step parts.0 in
-      let held = leb-true step (held_in l) parts.1 in
-      let all = leb-true step (length (numbers of)) (sym same_bound ∙ parts.1) in
-      cond-true named (get_or l.fields (step - 1) none) start e ∙ shows.held (step - 1) (omega arith) (omega arith) none
-
-  line_begin : named ≡ false → place_in l i (Sheet fault) ≡ start
-  line_begin e = cond-false named (get_or l.fields (step - 1) none) start e
-
-  pub told_line : (place_in l i (Sheet fault)).line ≡ i
-  told_line = elim (cases_Bool named) [ inl e ↦ ap (λ (f : Field). f.line) (field_named e) | inr e ↦ ap (λ (f : Field). f.line) (line_begin e) ]
-
-  pub told_column : (place_in l i (Sheet fault)).column ≡ column_of of fault
-  told_column =
-      let test : named ≡ (ltb 0 step && leb step (length (numbers of))) = ap (λ t. ltb 0 step && t) same_bound in
-      elim (cases_Bool named) [
-        | inl e ↦ ap (λ (f : Field). f.column) (field_named e) ∙ sym (cond-true _ (field_in 0 (numbers of) (step - 1)).column 1 (sym test ∙ e))
-        | inr e ↦ ap (λ (f : Field). f.column) (line_begin e) ∙ sym (cond-false _ (field_in 0 (numbers of) (step - 1)).column 1 (sym test ∙ e))
-      ]
+  pub told_at : (fault : SheetFault) → (bracket fault ≡ None) ⊎ (length (numbers of) ≤ 25) → place_at (items l.fields) i (bracket fault) ≡ record { line = i; column = column_of of fault }
+  told_at fault few = place_told (bracket fault) few

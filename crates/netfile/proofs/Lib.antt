@@ -1,5 +1,6 @@
-pub mod Buffers
-pub mod Printouts
+pub mod Sinks
+pub mod Passed
+pub mod Lines
 pub mod Numbers
 pub mod Verdicts
 pub mod Offers

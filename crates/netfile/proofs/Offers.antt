@@ -1,7 +1,8 @@
 -- What the lines of a net say to a sheet, and what the sheet answers.
-use Rattle.std.proofs.Common.{◌≡◌, ℕ, ◌+◌, ◌<◌, ◌≤◌, not, ◌&&◌, leb, List, [], ◌∷◌, ◌++◌, map, length, get_or, take, drop, ℤ, nat_abs, Ok, Err, Result, sym, refl, ap, ◌∙◌, subst, inl, inr, arith}
+use Rattle.std.proofs.Common.{◌≡◌, ℕ, ◌+◌, ◌<◌, ◌≤◌, not, ◌&&◌, leb, List, [], ◌∷◌, ◌++◌, map, length, get_or, take, drop, ℤ, nat_abs, Ok, Err, sym, refl, ap, ◌∙◌, inl, inr, arith}
 use Rattle.std.proofs.lemmas.Bool.{cond-true, cond-false, and_from, and_parts, le-leb, leb-true, cases_Bool}
-use Rattle.std.proofs.lemmas.List.{take_more, take_all, drop_more, drop_all, length-map, get_or-map}
+use Rattle.std.proofs.lemmas.List.{take_more, take_all, drop_more, length-map, get_or-map}
+use Rattle.inline_list.specs.Items.{items}
 use Rattle.ledger.specs.declared.Ledger.{Ghosts as Kind}
 use Rattle.sheet.specs.declared.fault.SheetFault.{SheetFault}
 use Rattle.sheet.specs.declared.fault.SheetFault.TheVariants.{StepCount}
@@ -9,34 +10,27 @@ use Rattle.sheet.specs.declared.sheets.OpenSheet.{OpenSheet}
 use Rattle.sheet.specs.Verdict.{Outcome, verdict, places_after}
 use Rattle.sheet.specs.Sheets as sheet
 use Rattle.grammar.specs.declared.mark.Mark.TheVariants.{Standing}
-use Rattle.grammar.specs.declared.line.Field.{Field}
 use Rattle.grammar.specs.declared.line.Line.{Line}
 use Rattle.grammar.specs.Text.{Record, steps, standing, place, question, mark}
 use Rattle.grammar.specs.Lines.{Shows}
-use Rattle.netfile.specs.declared.fault.FileFault.{FileFault}
-use Rattle.netfile.specs.declared.fault.FileFault.TheVariants.{Sheet}
 use Rattle.netfile.specs.declared.standing.StandingPlace.{StandingPlace}
-use Rattle.netfile.specs.Standing.{standing_places}
 use Rattle.netfile.specs.Order.{rank}
 use Rattle.netfile.specs.Files.{steps_of, places_of, and_then, offered, answer}
-use Rattle.netfile.specs.Reading.{AsSheet, SheetOf}
+use Rattle.netfile.specs.Reading.{SheetOf}
+use Rattle.netfile.proofs.Numbers.{values}
 use Rattle.netfile.proofs.Verdicts.{verdict_front, right_length}
 
--- a fault of the sheet, passed up
-pub as_refused : {T : Type 0} (o : Outcome) (P : T → Type 0) (r : Result T FileFault) (passed : FileFault) (fault : SheetFault) → r ≡ Err passed → passed ≡ Sheet fault → o ≡ Err fault → AsSheet o P r
-as_refused o P r passed fault e f h = subst (AsSheet o P) (sym (e ∙ ap Err f)) h
-
 -- the first effects of a place, offered to the sheet of the records rs
-module _ {L : Type 0} (k : Kind L) (before after : OpenSheet L) (rs : List Record) (effects p : List ℤ) (answer : Outcome) where
-  pub offer_answer : p ≡ take 25 effects → SheetOf k before rs → sheet.Offered k before p answer after → answer ≡ verdict k (steps_of rs) (places_of rs) effects
+module _ {L : Type 0} {k : Kind L} (before after : OpenSheet L k) (rs : List Record) (effects p : List ℤ) (answer : Outcome) where
+  pub offer_answer : p ≡ take 25 effects → SheetOf before rs → sheet.Offered before p answer after → answer ≡ verdict k (steps_of rs) (places_of rs) effects
   offer_answer e of o =
-      o.answered of.sound
+      o.answered
       ∙ ap (verdict k (sheet.steps_of before) (sheet.places_of before)) e
       ∙ verdict_front k (sheet.steps_of before) (sheet.places_of before) effects before.steps.few.1
       ∙ ap (λ n. verdict k n (sheet.places_of before) effects) of.steps
       ∙ ap (λ A. verdict k (steps_of rs) A effects) of.places
 
-  pub offer_accepted : p ≡ take 25 effects → SheetOf k before rs → sheet.Offered k before p answer after → answer ≡ Ok tt → SheetOf k after (place effects ∷ rs)
+  pub offer_accepted : p ≡ take 25 effects → SheetOf before rs → sheet.Offered before p answer after → answer ≡ Ok tt → SheetOf after (place effects ∷ rs)
   offer_accepted e of o done =
       let n = steps_of rs in
       let long : length effects ≡ n = right_length k n (places_of rs) effects (sym (offer_answer e of o) ∙ done) in
@@ -44,7 +38,6 @@ module _ {L : Type 0} (k : Kind L) (before after : OpenSheet L) (rs : List Recor
       let same = of.steps in
       let whole : p ≡ effects = e ∙ take_all 25 effects (omega arith) in
       record {
-        sound = o.sound of.sound;
         steps = o.steps ∙ of.steps;
         places = o.places ∙ ap (places_after (sheet.places_of before) p) done ∙ ap (λ A. A ++ p ∷ []) of.places ∙ ap (λ q. places_of rs ++ q ∷ []) whole;
       }
@@ -63,16 +56,13 @@ module _ {L : Type 0} (k : Kind L) (n : ℕ) (places : List (List ℤ)) (i : ℕ
   pub offered_stops : (fault : SheetFault) → i < length places → p ≡ get_or places i [] → verdict k n (take i places) p ≡ Err fault → offered k n [] places ≡ offered k n (take i places) (drop i places) → offered k n [] places ≡ Err fault
   offered_stops fault h e done inv = inv ∙ next_offer h e ∙ ap (λ o. and_then o (offered k n (take (i + 1) places) (drop (i + 1) places))) done
 
-  pub offered_all : length places ≤ i → offered k n [] places ≡ offered k n (take i places) (drop i places) → offered k n [] places ≡ Ok tt
-  offered_all h inv = inv ∙ ap (offered k n (take i places)) (drop_all i places h)
-
 -- a place of the list, as the sheet answers to it
-module _ {L : Type 0} (k : Kind L) (before after : OpenSheet L) (n : ℕ) (places : List (List ℤ)) (i : ℕ) (p : List ℤ) (answer : Outcome) where
-  pub listed_answer : sheet.Sound k before → sheet.steps_of before ≡ n → sheet.places_of before ≡ take i places → sheet.Offered k before p answer after → answer ≡ verdict k n (take i places) p
-  listed_answer sound many is o =
-      o.answered sound ∙ ap (λ m. verdict k m (sheet.places_of before) p) many ∙ ap (λ A. verdict k n A p) is
+module _ {L : Type 0} {k : Kind L} (before after : OpenSheet L k) (n : ℕ) (places : List (List ℤ)) (i : ℕ) (p : List ℤ) (answer : Outcome) where
+  pub listed_answer : sheet.steps_of before ≡ n → sheet.places_of before ≡ take i places → sheet.Offered before p answer after → answer ≡ verdict k n (take i places) p
+  listed_answer many is o =
+      o.answered ∙ ap (λ m. verdict k m (sheet.places_of before) p) many ∙ ap (λ A. verdict k n A p) is
 
-  pub listed_places : i < length places → p ≡ get_or places i [] → sheet.places_of before ≡ take i places → sheet.Offered k before p answer after → answer ≡ Ok tt → sheet.places_of after ≡ take (i + 1) places
+  pub listed_places : i < length places → p ≡ get_or places i [] → sheet.places_of before ≡ take i places → sheet.Offered before p answer after → answer ≡ Ok tt → sheet.places_of after ≡ take (i + 1) places
   listed_places h e is o done =
       o.places ∙ ap (places_after (sheet.places_of before) p) done ∙ ap (λ A. A ++ p ∷ []) is ∙ ap (λ q. take i places ++ q ∷ []) e ∙ sym (take_more places i [] h)
 
@@ -83,24 +73,17 @@ table_row rows places i d e h =
     let l2 = length-map rows (λ (place : StandingPlace). place.effects) in
     sym (get_or-map (λ (place : StandingPlace). place.effects) rows i d [] (omega arith)) ∙ ap (λ l. get_or l i []) e
 
--- the first line
-pub first_standing : {L : Type 0} (k : Kind L) (of : Record) (r : Result (OpenSheet L) FileFault) → mark of ≡ Standing → AsSheet (offered k 7 [] standing_places) (λ s. SheetOf k s (standing ∷ [])) r → AsSheet (answer k [] of) (λ s. SheetOf k s (of ∷ [])) r
-first_standing k (steps n) r e h = let z : ◌≡◌ {A = ℕ} 0 1 = cc in absurd (omega arith)
-first_standing k standing r e h = h
-first_standing k (place effects) r e h = let z : ◌≡◌ {A = ℕ} 0 1 = cc in absurd (omega arith)
-first_standing k (question counts) r e h = let z : ◌≡◌ {A = ℕ} 0 1 = cc in absurd (omega arith)
-
 -- the number that an `N:` line says
-pub said_steps : (i : ℕ) (l : Line) (of : Record) → Shows i l of → rank (mark of) ≡ 0 → (l.mark ≡ Standing → ⊥) → (n : ℕ) × (of ≡ steps n) × ((d : Field) → nat_abs (get_or l.fields 0 d).value ≡ n)
-said_steps i l (steps n) shows zero other = (n, refl, λ d. ap (λ (f : Field). nat_abs f.value) (shows.held 0 (omega arith) (omega arith) d))
+pub said_steps : (i : ℕ) (l : Line) (of : Record) → Shows i l of → rank (mark of) ≡ 0 → (l.mark ≡ Standing → ⊥) → (n : ℕ) × (of ≡ steps n) × (map (λ f. nat_abs f.value) (items l.fields) ≡ n ∷ [])
+said_steps i l (steps n) shows zero other = (n, refl, values nat_abs i l (steps n) shows)
 said_steps i l standing shows zero other = absurd (other shows.marked)
 said_steps i l (place effects) shows zero other = absurd (omega arith)
 said_steps i l (question counts) shows zero other = absurd (omega arith)
 
-pub opened_steps : {L : Type 0} (k : Kind L) (s : OpenSheet L) (m n : ℕ) → sheet.Opened k m s → m ≡ n → 1 ≤ m → m ≤ 24 → (answer k [] (steps n) ≡ Ok tt) × SheetOf k s (steps n ∷ [])
-opened_steps k s m n o same low high = (
+pub opened_steps : {L : Type 0} {k : Kind L} (s : OpenSheet L k) (m n : ℕ) → sheet.Opened m s → m ≡ n → 1 ≤ m → m ≤ 24 → (answer k [] (steps n) ≡ Ok tt) × SheetOf s (steps n ∷ [])
+opened_steps s m n o same low high = (
   cond-false _ _ _ (ap not (and_from (leb 1 n) (leb n 24) (le-leb 1 n (omega arith)) (le-leb n 24 (omega arith)))),
-  record { sound = o.sound; steps = o.steps ∙ same; places = o.places },
+  record { steps = o.steps ∙ same; places = o.places },
 )
 
 pub refused_steps : {L : Type 0} (k : Kind L) (n : ℕ) → ((1 ≤ n) × (n ≤ 24) → ⊥) → answer k [] (steps n) ≡ Err StepCount

@@ -14,6 +14,7 @@ use Rattle.grammar.specs.Lines.{Begins, Broken, Opens}
 use Rattle.grammar.proofs.Lines.{one_way, one_break, apart, same_line, same_mark, begins_mark}
 use Rattle.netfile.specs.declared.fault.FileFault.{FileFault}
 use Rattle.netfile.specs.declared.fault.FileFault.TheVariants.{BufferTooShort, Grammar, Order, TooLong, TooManyQuestions, Sheet}
+use Rattle.netfile.specs.declared.fault.Position.{Position}
 use Rattle.netfile.specs.declared.fault.RunFault.{RunFault}
 use Rattle.netfile.specs.Order.{follows, May, nearest, questions}
 use Rattle.netfile.specs.Files.{written, steps_of, places_of, answer, Accepted, LineFault, column_of, Refused, Why, FirstFault, RightFile}
@@ -140,27 +141,24 @@ record Next {L : Type 0} (k : Kind L) (rs : List Record) (s : List ℕ) (r : Rec
 -- what is told after the records: nothing at the end of the file, or the fault of the line
 abbrev Told : {L : Type 0} → Kind L → List Record → List ℕ → Option RunFault → Type 0
 Told k rs s None = (length s ≡ 0) × (0 < length rs)
-Told k rs s (Some f) = (f.line ≡ length rs + 1) × Why k rs s f.column f.fault
+Told k rs s (Some f) = (column : ℕ) × (f.at ≡ Some (record { line = length rs + 1; column = column })) × Why k rs s column f.fault
 
 -- the way through the rest of a file: the records to come, the first line first, and what is told after them
 abbrev Way : {L : Type 0} → Kind L → List Record → List ℕ → List Record → Option RunFault → Type 0
 Way k rs s [] o = Told k rs s o
 Way k rs s (x ∷ xs) o = (w : List ℕ) × Next k rs s x w × Way k (x ∷ rs) w xs o
 
-same_fault : (f g : RunFault) → f.fault ≡ g.fault → f.line ≡ g.line → f.column ≡ g.column → f ≡ g
-same_fault f g x l c =
-    ap (λ (y : FileFault). record { fault = y; line = f.line; column = f.column }) x
-    ∙ ap (λ (i : ℕ). record { fault = g.fault; line = i; column = f.column }) l
-    ∙ ap (λ (i : ℕ). record { fault = g.fault; line = g.line; column = i }) c
+same_fault : (f g : RunFault) → f.fault ≡ g.fault → f.at ≡ g.at → f ≡ g
+same_fault f g x p = ap (λ (y : FileFault). record { fault = y; at = f.at }) x ∙ ap (λ (y : Option Position). record { fault = g.fault; at = y }) p
 
 module _ {L : Type 0} (k : Kind L) where
   one_told : (rs : List Record) (s : List ℕ) (o p : Option RunFault) → Told k rs s o → Told k rs s p → o ≡ p
   one_told rs s None None h g = refl
-  one_told rs s None (Some f) h g = absurd (end_not_refused k rs s h.0 h.1 f.column f.fault g.1)
-  one_told rs s (Some f) None h g = absurd (end_not_refused k rs s g.0 g.1 f.column f.fault h.1)
+  one_told rs s None (Some f) h g = absurd (end_not_refused k rs s h.0 h.1 g.0 f.fault g.2)
+  one_told rs s (Some f) None h g = absurd (end_not_refused k rs s g.0 g.1 h.0 f.fault h.2)
   one_told rs s (Some f) (Some g) h i =
-      let why = one_why k rs s f.fault g.fault f.column g.column h.1 i.1 in
-      ap Some (same_fault f g why.0 (h.0 ∙ sym i.0) why.1)
+      let why = one_why k rs s f.fault g.fault h.0 i.0 h.2 i.2 in
+      ap Some (same_fault f g why.0 (h.1 ∙ ap (λ (c : ℕ). Some (record { line = length rs + 1; column = c })) why.1 ∙ sym i.1))
 
   -- nothing is told before a record that is accepted
   accepted_not_told : (rs : List Record) (s : List ℕ) (r : Record) (w : List ℕ) (o : Option RunFault) → Next k rs s r w → Told k rs s o → ⊥
@@ -171,7 +169,7 @@ module _ {L : Type 0} (k : Kind L) where
   accepted_not_told rs s r w (Some f) x h =
       let long = ap length x.is ∙ length-append (text r) w in
       let begins : Begins s r (length (text r)) = record { within = omega arith; right = x.right; is = ap (take (length (text r))) x.is ∙ take_at (text r) w (length (text r)) refl } in
-      accepted_not_refused k rs s r (length (text r)) begins x.may x.done f.column f.fault h.1
+      accepted_not_refused k rs s r (length (text r)) begins x.may x.done h.0 f.fault h.2
 
   one_way_on : (rs : List Record) (s : List ℕ) (xs ys : List Record) (o p : Option RunFault) → Way k rs s xs o → Way k rs s ys p → (xs ≡ ys) × (o ≡ p)
   one_way_on rs s [] [] o p h g = (refl, one_told rs s o p h g)
@@ -208,7 +206,7 @@ Fated k s (read rs o) = (length s ≤ 16384) × Reads k s rs o
 
 -- a fault of the whole file
 abbrev whole : FileFault → RunFault
-whole x = record { fault = x; line = 0; column = 0 }
+whole x = record { fault = x; at = None }
 
 -- the fault that is told of the file, its buffer aside
 abbrev fault_of : Fate → Option RunFault
@@ -227,7 +225,7 @@ module _ {L : Type 0} (k : Kind L) (s : List ℕ) where
   reads_right rs h = record { rest = []; is = h.is ∙ sym (append-nil (written rs)); accepted = h.accepted; told = (refl, h.some) }
 
   reads_fault : (f : RunFault) (h : FirstFault k s f) → Reads k s h.before (Some f)
-  reads_fault f h = record { rest = h.rest; is = h.is; accepted = h.accepted; told = (h.line, h.why) }
+  reads_fault f h = record { rest = h.rest; is = h.is; accepted = h.accepted; told = (h.column, h.told, h.why) }
 
   one_fate : (a b : Fate) → Fated k s a → Fated k s b → a ≡ b
   one_fate long long h g = refl
@@ -245,7 +243,7 @@ module _ {L : Type 0} (k : Kind L) (s : List ℕ) where
   stopped_fate f h = (read h.1.before (Some f), (h.0, reads_fault f h.1), refl)
 
   unread_fate : (f : RunFault) (x : FileFault) → f.fault ≡ x → WhyUnread k s f x → (a : Fate) × Fated k s a × (fault_of a ≡ Some f)
-  unread_fate f TooLong e h = (long, h.0, ap Some (sym (same_fault f (whole TooLong) e h.1.0 h.1.1)))
+  unread_fate f TooLong e h = (long, h.0, ap Some (sym (same_fault f (whole TooLong) e h.1)))
   unread_fate f BufferTooShort e h = absurd h
   unread_fate f Grammar e h = stopped_fate f h
   unread_fate f Order e h = stopped_fate f h
@@ -266,7 +264,7 @@ module _ {L : Type 0} (k : Kind L) (s : List ℕ) where
       let both : Some f ≡ Some g = sym a.2 ∙ ap fault_of (one_fate a.0 b.0 a.1 b.1) ∙ b.2 in
       cc
 
-  pub only_sheet : (r : Result (ClosedSheet L) RunFault) → MatchResult r (SheetRead k s) (Unread k s) → OnlySheet k s r
+  pub only_sheet : (r : Result (ClosedSheet L k) RunFault) → MatchResult r (SheetRead k s) (Unread k s) → OnlySheet k s r
   only_sheet (Ok c) h = record {
     net = λ rs right.
         let same = one_reading h.records rs h.right right in
@@ -300,14 +298,14 @@ module _ {L : Type 0} (k : Kind L) (s was : List ℕ) where
   settled_stop f h is same = record { fate = read h.1.before (Some f); fated = (h.0, reads_fault k s f h.1); told = refl; left = same }
 
   settled_fault : (f : RunFault) (x : FileFault) → f.fault ≡ x → WhyNot k s was f x → (is : List ℕ) → is ≡ was → Settled k s was (Err f) is
-  settled_fault f TooLong e h is same = record { fate = long; fated = h.0; told = ap Err (same_fault f (whole TooLong) e h.1.0 h.1.1); left = same }
+  settled_fault f TooLong e h is same = record { fate = long; fated = h.0; told = ap Err (same_fault f (whole TooLong) e h.1); left = same }
   settled_fault f BufferTooShort e h is same =
       let rs = h.2.0 in
       let short = lt-leb (length (ran_text rs)) (length was) h.2.2 in
       record {
         fate = read rs None;
         fated = (h.0, reads_right k s rs h.2.1);
-        told = ap Err (same_fault f (whole BufferTooShort) e h.1.0 h.1.1) ∙ sym (cond-false (fits rs was) _ _ short);
+        told = ap Err (same_fault f (whole BufferTooShort) e h.1) ∙ sym (cond-false (fits rs was) _ _ short);
         left = same ∙ sym (cond-false (fits rs was) _ _ short);
       }
   settled_fault f Grammar e h is same = settled_stop f h is same

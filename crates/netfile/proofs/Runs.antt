@@ -1,7 +1,7 @@
 -- From the parts of a run to its answer.
-use Rattle.std.proofs.Common.{◌≡◌, ℕ, ◌<◌, ◌≤◌, List, [], ◌∷◌, ◌++◌, map, length, drop, Ok, Err, codes, Result, sym, refl, ap, ◌∙◌, subst, inl, arith, MatchResult}
+use Rattle.std.proofs.Common.{◌≡◌, ℕ, ◌<◌, ◌≤◌, List, [], ◌∷◌, ◌++◌, map, length, drop, Some, None, Ok, Err, codes, Result, sym, refl, ap, ◌∙◌, subst, inl, MatchResult}
 use Rattle.std.specs.List.{flat_map}
-use Rattle.std.proofs.lemmas.List.{nil_from_length}
+use Rattle.std.specs.Result.{IsErrAnd}
 use Rattle.ledger.specs.declared.Ledger.{Ghosts as Kind}
 use Rattle.cycle_theory.specs.Method.{tss}
 use Rattle.cycle_theory.specs.Walk.{outcome}
@@ -15,17 +15,18 @@ use Rattle.netfile.specs.Files.{steps_of, places_of, asked_of, Why, FirstFault}
 use Rattle.netfile.specs.Printouts.{line, row_line, outcome_line, Wrote}
 use Rattle.netfile.specs.Reading.{sheet_text, FileRead}
 use Rattle.netfile.specs.Runs.{ran_text, WhyUnread, Unread, SheetRead, WhyNot, Faulty, RanWell, Ran}
+use Rattle.netfile.proofs.Passed.{passed}
 use Rattle.netfile.proofs.Listing.{listed_rows}
 
 -- a file of no bytes
-pub no_line : {L : Type 0} (k : Kind L) (s : List ℕ) → length s ≤ 0 → FirstFault k s (record { fault = Order; line = 1; column = 1 })
-no_line k s h = record { before = []; rest = []; is = nil_from_length s (omega arith); accepted = tt; line = refl; why = (refl, inl (refl, refl)) }
+pub no_line : {L : Type 0} (k : Kind L) (s : List ℕ) → s ≡ [] → FirstFault k s (record { fault = Order; at = Some (record { line = 1; column = 1 }) })
+no_line k s e = record { before = []; rest = []; column = 1; is = e; accepted = tt; told = refl; why = (refl, inl (refl, refl)) }
 
 -- the first fault of a file that is not too long
 module _ {L : Type 0} (k : Kind L) (s : List ℕ) (f : RunFault) where
   unread_as : (x : FileFault) → f.fault ≡ x → length s ≤ 16384 → FirstFault k s f → WhyUnread k s f x
-  unread_as TooLong e h first = absurd (subst (Why k first.before first.rest f.column) e first.why)
-  unread_as BufferTooShort e h first = absurd (subst (Why k first.before first.rest f.column) e first.why)
+  unread_as TooLong e h first = absurd (subst (Why k first.before first.rest first.column) e first.why)
+  unread_as BufferTooShort e h first = absurd (subst (Why k first.before first.rest first.column) e first.why)
   unread_as Grammar e h first = (h, first)
   unread_as Order e h first = (h, first)
   unread_as TooManyQuestions e h first = (h, first)
@@ -47,37 +48,30 @@ module _ {L : Type 0} (k : Kind L) (s was : List ℕ) (f : RunFault) where
   pub faulty : Unread k s f → Faulty k s was f
   faulty = faulty_as f.fault
 
--- a fault that was passed on
-pub unread_passed : {L T : Type 0} (k : Kind L) (s : List ℕ) (P : T → Type 0) (r : Result T RunFault) (passed f : RunFault) → r ≡ Err passed → passed ≡ f → Unread k s f → MatchResult r P (Unread k s)
-unread_passed k s P r passed f e g h = subst (λ a. MatchResult a P (Unread k s)) (sym (e ∙ ap Err g)) h
-
-pub ran_faulty : {L : Type 0} (k : Kind L) (s was is : List ℕ) (r : Result ℕ RunFault) (passed f : RunFault) → r ≡ Err passed → passed ≡ f → Faulty k s was f → is ≡ was → Ran k s was r is
-ran_faulty k s was is r passed f e g h same = subst (λ a. Ran k s was a is) (sym (e ∙ ap Err g)) (h, same)
-
 -- a file that was read to its end
-module _ {L : Type 0} (k : Kind L) (s : List ℕ) (c : ClosedSheet L) (judged : List Judged) (read : FileRead k s c judged) where
-  text_is : sheet_text (closed_list k c) judged ≡ ran_text read.records
+module _ {L : Type 0} (k : Kind L) (s : List ℕ) (c : ClosedSheet L k) (judged : List Judged) (read : FileRead k s c judged) where
+  text_is : sheet_text (closed_list c) judged ≡ ran_text read.records
   text_is =
       let rs = read.records in
       let of = read.sheet_is in
       let places = places_of rs in
-      let list : closed_list k c ≡ tss (steps_of rs) places = listed_rows k c of.sound ∙ ap (λ n. tss n (places_in c)) of.steps ∙ ap (tss (steps_of rs)) of.places in
-      ap (λ t. (line (codes "M:") (length (closed_list k c) ∷ []) ++ flat_map row_line (closed_list k c)) ++ t) read.judges
+      let list : closed_list c ≡ tss (steps_of rs) places = listed_rows c ∙ ap (λ n. tss n (places_in c)) of.steps ∙ ap (tss (steps_of rs)) of.places in
+      ap (λ t. (line (codes "M:") (length (closed_list c) ∷ []) ++ flat_map row_line (closed_list c)) ++ t) read.judges
       ∙ ap (λ rows. (line (codes "M:") (length rows ∷ []) ++ flat_map row_line rows) ++ flat_map outcome_line (map (outcome places rows) (asked_of rs))) list
 
   pub sheet_read : length s ≤ 16384 → SheetRead k s c
-  sheet_read h = record { records = read.records; short = h; right = read.right; sound = read.sheet_is.sound; steps = read.sheet_is.steps; places = read.sheet_is.places }
+  sheet_read h = record { records = read.records; short = h; right = read.right; steps = read.sheet_is.steps; places = read.sheet_is.places }
 
-  pub ran_well : (was : List ℕ) (n : ℕ) (is : List ℕ) → length s ≤ 16384 → Wrote (sheet_text (closed_list k c) judged) (Ok n) was is → RanWell k s was n is
+  pub ran_well : (was : List ℕ) (n : ℕ) (is : List ℕ) → length s ≤ 16384 → Wrote (sheet_text (closed_list c) judged) (Ok n) was is → RanWell k s was n is
   ran_well was n is h w = record { records = read.records; short = h; right = read.right; long = w.0 ∙ ap length text_is; wrote = w.1 ∙ ap (λ t. t ++ drop n was) text_is }
 
-  pub too_short : (was : List ℕ) (fault : FileFault) (is : List ℕ) (f : RunFault) → length s ≤ 16384 → Wrote (sheet_text (closed_list k c) judged) (Err fault) was is → f ≡ record { fault = fault; line = 0; column = 0 } → Faulty k s was f × (is ≡ was)
+  pub too_short : (was : List ℕ) (fault : FileFault) (is : List ℕ) (f : RunFault) → length s ≤ 16384 → Wrote (sheet_text (closed_list c) judged) (Err fault) was is → f ≡ record { fault = fault; at = None } → Faulty k s was f × (is ≡ was)
   too_short was fault is f h w e =
       let long : length was < length (ran_text read.records) = subst (λ t. length was < length t) text_is w.1 in
-      let told : f ≡ record { fault = BufferTooShort; line = 0; column = 0 } = e ∙ ap (λ (x : FileFault). record { fault = x; line = 0; column = 0 }) w.0 in
-      (subst (Faulty k s was) (sym told) (h, (refl, refl), (read.records, read.right, long)), w.2)
+      let told : f ≡ record { fault = BufferTooShort; at = None } = e ∙ ap (λ (x : FileFault). record { fault = x; at = None }) w.0 in
+      (subst (Faulty k s was) (sym told) (h, refl, (read.records, read.right, long)), w.2)
 
--- where a whole file was read there is its sheet
-pub sheet_cases : {L : Type 0} (k : Kind L) (s : List ℕ) (judged : List Judged) (r : Result (ClosedSheet L) RunFault) → MatchResult r (λ c. (length s ≤ 16384) × FileRead k s c judged) (Unread k s) → MatchResult r (SheetRead k s) (Unread k s)
-sheet_cases k s judged (Ok c) h = sheet_read k s c judged h.1 h.0
-sheet_cases k s judged (Err f) h = h
+  -- what the printout and its refusal make of the run
+  pub ran_so : (was is : List ℕ) (a : Result ℕ FileFault) (r : Result ℕ RunFault) → length s ≤ 16384 → Wrote (sheet_text (closed_list c) judged) a was is → MatchResult a (λ n. r ≡ Ok n) (λ e. IsErrAnd r (λ f. f ≡ record { fault = e; at = None })) → Ran k s was r is
+  ran_so was is (Ok n) r short w h = subst (λ x. Ran k s was x is) (sym h) (ran_well was n is short w)
+  ran_so was is (Err fault) r short w h = passed (λ x. Ran k s was x is) h (too_short was fault is _ short w refl)

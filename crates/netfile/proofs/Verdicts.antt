@@ -1,5 +1,5 @@
 -- What the sheet says to a place is said of its first 25 effects, since no sheet has so many steps; and which step a refusal names.
-use Rattle.std.proofs.Common.{◌≡◌, ℕ, ◌≤◌, not, ◌⊎◌, List, length, take, ℤ, pos, Ok, Err, sym, ap, ◌∙◌, subst, inl, inr, arith}
+use Rattle.std.proofs.Common.{◌≡◌, ℕ, ◌≤◌, not, ◌⊎◌, List, length, take, ℤ, pos, None, Ok, Err, sym, ap, ◌∙◌, inl, inr, arith}
 use Rattle.std.proofs.lemmas.Bool.{cond-true, ne_eqb, cases_lt, cases_eq}
 use Rattle.std.proofs.lemmas.List.{take_all, length-take-le, length-map}
 use Rattle.ledger.specs.declared.Ledger.{Ghosts as Kind}
@@ -36,21 +36,21 @@ right_length k n places p h =
 pub asked_wrong_length : (n : ℕ) (counts : List ℕ) → (length counts ≡ n → ⊥) → asked n counts ≡ Err Length
 asked_wrong_length n counts h = cond-true _ _ _ (ap not (ne_eqb (length counts) n h))
 
-err_length : (o : Outcome) (fault : SheetFault) → o ≡ Err Length → o ≡ Err fault → bracket fault ≤ 25
-err_length o fault e f = let same : fault ≡ Length = cc in subst (λ x. bracket x ≤ 25) (sym same) (omega arith)
+none_of_length : (o : Outcome) (fault : SheetFault) → o ≡ Err Length → o ≡ Err fault → bracket fault ≡ None
+none_of_length o fault e f = let same : fault ≡ Length = cc in ap bracket same
 
--- a refusal names one of the first 25 steps, or none, wherever the line has more numbers
-pub names_early : {L : Type 0} (k : Kind L) (rs : List Record) (r : Record) (fault : SheetFault) → steps_of rs ≤ 24 → answer k rs r ≡ Err fault → (bracket fault ≤ 25) ⊎ (length (numbers r) ≤ 25)
-names_early k rs (steps n) fault few e = inr (omega arith)
-names_early k rs standing fault few e = inr (omega arith)
-names_early k rs (place effects) fault few e =
+-- a refusal names a step only where the line has at most 25 numbers
+pub names_few : {L : Type 0} (k : Kind L) (rs : List Record) (r : Record) (fault : SheetFault) → steps_of rs ≤ 24 → answer k rs r ≡ Err fault → (bracket fault ≡ None) ⊎ (length (numbers r) ≤ 25)
+names_few k rs (steps n) fault few e = inr (omega arith)
+names_few k rs standing fault few e = inr (omega arith)
+names_few k rs (place effects) fault few e =
     elim (cases_lt 25 (length effects)) [
-      | inl long ↦ inl (err_length (verdict k (steps_of rs) (places_of rs) effects) fault (wrong_length k (steps_of rs) (places_of rs) effects (λ s. omega arith)) e)
+      | inl long ↦ inl (none_of_length (verdict k (steps_of rs) (places_of rs) effects) fault (wrong_length k (steps_of rs) (places_of rs) effects (λ s. omega arith)) e)
       | inr short ↦ inr short
     ]
-names_early k rs (question counts) fault few e =
+names_few k rs (question counts) fault few e =
     let size = length-map counts pos in
     elim (cases_lt 25 (length counts)) [
-      | inl long ↦ inl (err_length (asked (steps_of rs) counts) fault (asked_wrong_length (steps_of rs) counts (λ s. omega arith)) e)
+      | inl long ↦ inl (none_of_length (asked (steps_of rs) counts) fault (asked_wrong_length (steps_of rs) counts (λ s. omega arith)) e)
       | inr short ↦ inr (omega arith)
     ]

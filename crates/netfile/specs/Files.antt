@@ -11,12 +11,13 @@
 --   Accepted k rs           every record is right, in order, and taken by the sheet of those before it
 --   LineFault b n rest c f  why the line at the front of `rest`, after the mark b and n questions, is refused with f at column c:
 --                           by the order of its mark, then by the number of questions, then by its grammar
+--   column_at ns step       the column of the number of this step, from 1; 1 where there is no step, or no such number
 --   column_of r f           the column at which a fault of the sheet is told: that of the field of the step that it names, else 1
 --   Refused k rs rest c f   the line is that of a record in order, which the sheet refuses with this fault
 --   Why k rs rest c f       why the line at the front of `rest`, after the records rs, is refused with f at column c
 --   FirstFault k s f        the first fault of the file s: every line before it is accepted
 --   RightFile k s rs        the file s is the text of the accepted records rs
-use Rattle.std.specs.Prelude.{◌≡◌, ℕ, ◌+◌, ◌-◌, ◌<◌, ◌≤◌, true, false, cond, not, ◌&&◌, ◌⊎◌, List, [], ◌∷◌, ◌++◌, length, ℤ, None, Ok, Err, Option, ◌==◌, nat_le, nat_lt}
+use Rattle.std.specs.Prelude.{◌≡◌, ℕ, ◌+◌, ◌-◌, ◌<◌, ◌≤◌, true, false, cond, not, ◌&&◌, ◌⊎◌, List, [], ◌∷◌, ◌++◌, length, ℤ, Some, None, Ok, Err, Option, ◌==◌, nat_le}
 use Rattle.ledger.specs.declared.Ledger.{Ghosts as Kind}
 use Rattle.method.specs.Effects.{some}
 use Rattle.sheet.specs.declared.fault.SheetFault.{SheetFault}
@@ -89,9 +90,12 @@ LineFault b n rest column BufferTooShort = ⊥
 LineFault b n rest column TooLong = ⊥
 LineFault b n rest column (Sheet fault) = ⊥
 
+abbrev pub column_at : List ℤ → Option ℕ → ℕ
+column_at ns None = 1
+column_at ns (Some step) = cond (nat_le 1 step && nat_le step (length ns)) (field_in 0 ns (step - 1)).column 1
+
 abbrev pub column_of : Record → SheetFault → ℕ
-column_of r fault =
-    cond (nat_lt 0 (bracket fault) && nat_le (bracket fault) (length (numbers r))) (field_in 0 (numbers r) (bracket fault - 1)).column 1
+column_of r fault = column_at (numbers r) (bracket fault)
 
 pub record Refused {L : Type 0} (k : Kind L) (rs : List Record) (rest : List ℕ) (column : ℕ) (fault : SheetFault) : Type 0 where
   pub of : Record
@@ -112,10 +116,11 @@ Why k rs rest column (Sheet fault) = Refused k rs rest column fault
 pub record FirstFault {L : Type 0} (k : Kind L) (s : List ℕ) (f : RunFault) : Type 0 where
   pub before : List Record
   pub rest : List ℕ
+  pub column : ℕ
   pub is : s ≡ written before ++ rest
   pub accepted : Accepted k before
-  pub line : f.line ≡ length before + 1
-  pub why : Why k before rest f.column f.fault
+  pub told : f.at ≡ Some (record { line = length before + 1; column = column })
+  pub why : Why k before rest column f.fault
 
 pub record RightFile {L : Type 0} (k : Kind L) (s : List ℕ) (rs : List Record) : Type 0 where
   pub is : s ≡ written rs

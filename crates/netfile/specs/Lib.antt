@@ -1,5 +1,5 @@
 pub mod Faults
-pub mod Buffers
+pub mod Sinks
 pub mod Printouts
 pub mod Standing
 pub mod Order

@@ -10,10 +10,10 @@
 --   OnlyRun k s was r is   nothing else could have been told of this file and this buffer, or left in a buffer of its length
 --   OneReading k           no file is the text of two lists of accepted records
 --   OnlySheet k s r        no other net could have been read from the file s, and no fault told; or no other fault, and no sheet made
-use Rattle.std.specs.Prelude.{◌≡◌, ℕ, ◌<◌, ◌≤◌, List, ◌++◌, length, drop, Ok, Err, Result}
+use Rattle.std.specs.Prelude.{◌≡◌, ℕ, ◌<◌, ◌≤◌, List, ◌++◌, length, drop, None, Ok, Err, Result}
 use Rattle.ledger.specs.declared.Ledger.{Ghosts as Kind}
 use Rattle.sheet.specs.declared.sheets.ClosedSheet.{ClosedSheet}
-use Rattle.sheet.specs.Sheets.{SoundClosed, places_in}
+use Rattle.sheet.specs.Sheets.{places_in}
 use Rattle.grammar.specs.Text.{Record}
 use Rattle.netfile.specs.declared.fault.FileFault.{FileFault}
 use Rattle.netfile.specs.declared.fault.FileFault.TheVariants.{BufferTooShort, Grammar, Order, TooLong, TooManyQuestions, Sheet}
@@ -26,7 +26,7 @@ ran_text rs = net_printout (steps_of rs) (places_of rs) (asked_of rs)
 
 -- told of no line
 abbrev pub OfFile : RunFault → Type 0
-OfFile f = (f.line ≡ 0) × (f.column ≡ 0)
+OfFile f = f.at ≡ None
 
 abbrev pub WhyUnread : {L : Type 0} → Kind L → List ℕ → RunFault → FileFault → Type 0
 WhyUnread k s f TooLong = (16384 < length s) × OfFile f
@@ -39,11 +39,10 @@ WhyUnread k s f (Sheet fault) = (length s ≤ 16384) × FirstFault k s f
 abbrev pub Unread : {L : Type 0} → Kind L → List ℕ → RunFault → Type 0
 Unread k s f = WhyUnread k s f f.fault
 
-pub record SheetRead {L : Type 0} (k : Kind L) (s : List ℕ) (c : ClosedSheet L) : Type 0 where
+pub record SheetRead {L : Type 0} (k : Kind L) (s : List ℕ) (c : ClosedSheet L k) : Type 0 where
   pub records : List Record
   pub short : length s ≤ 16384
   pub right : RightFile k s records
-  pub sound : SoundClosed k c
   pub steps : c.steps.n ≡ steps_of records
   pub places : places_in c ≡ places_of records
 
@@ -79,14 +78,14 @@ OnlyRun k s was r is = (r' : Result ℕ RunFault) (is' : List ℕ) → length is
 abbrev pub OneReading : {L : Type 0} → Kind L → Type 0
 OneReading k = (s : List ℕ) (rs qs : List Record) → RightFile k s rs → RightFile k s qs → rs ≡ qs
 
-pub record OnlyNet {L : Type 0} (k : Kind L) (s : List ℕ) (c : ClosedSheet L) : Type 0 where
+pub record OnlyNet {L : Type 0} (k : Kind L) (s : List ℕ) (c : ClosedSheet L k) : Type 0 where
   pub net : (rs : List Record) → RightFile k s rs → (c.steps.n ≡ steps_of rs) × (places_in c ≡ places_of rs)
   pub faultless : (f : RunFault) → Unread k s f → ⊥
 
 pub record OnlyFault {L : Type 0} (k : Kind L) (s : List ℕ) (f : RunFault) : Type 0 where
   pub fault : (f' : RunFault) → Unread k s f' → f' ≡ f
-  pub sheetless : (c : ClosedSheet L) → SheetRead k s c → ⊥
+  pub sheetless : (c : ClosedSheet L k) → SheetRead k s c → ⊥
 
-abbrev pub OnlySheet : {L : Type 0} → Kind L → List ℕ → Result (ClosedSheet L) RunFault → Type 0
+abbrev pub OnlySheet : {L : Type 0} (k : Kind L) → List ℕ → Result (ClosedSheet L k) RunFault → Type 0
 OnlySheet k s (Ok c) = OnlyNet k s c
 OnlySheet k s (Err f) = OnlyFault k s f

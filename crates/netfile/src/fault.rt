@@ -1,5 +1,5 @@
 // Why a run is refused, and where in the file.
-ghost use Rattle.std.specs.Prelude.{◌≡◌};
+ghost use Rattle.std.specs.Prelude.{◌≡◌, Some, None};
 ghost use Rattle.netfile.specs.Faults.{number, layer};
 ghost use Rattle.netfile.specs.declared.fault.FileFault.TheVariants.{Sheet};
 
@@ -55,10 +55,35 @@ impl From<SheetFault> for FileFault {
     }
 }
 
-// The first fault of a run, with its line and column, both from 1; both are 0 where it belongs to no line.
+// Where a fault is told: a line and a column of the file, both from 1.
+#[derive(Clone, Copy)]
+pub struct Position {
+    pub line: usize,
+    pub column: usize,
+}
+
+// The first fault of a run, and where it is told; a fault of the whole file belongs to no line.
 #[derive(Clone, Copy)]
 pub struct RunFault {
     pub fault: FileFault,
-    pub line: usize,
-    pub column: usize,
+    pub at: Option<Position>,
+}
+
+impl RunFault {
+    // A fault of the whole file.
+    pub(crate) fn of_file(fault: FileFault) -> RunFault
+        ensures { result ≡ record { fault = fault; at = None } }
+    {
+        RunFault { fault, at: None }
+    }
+
+    // A fault of a line.
+    pub(crate) fn of_line(fault: FileFault, line: usize, column: usize) -> RunFault
+        ensures { result ≡ record { fault = fault; at = Some (record { line = line; column = column }) } }
+    {
+        RunFault {
+            fault,
+            at: Some(Position { line, column }),
+        }
+    }
 }

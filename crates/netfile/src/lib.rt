@@ -9,9 +9,11 @@ mod printout;
 mod questions;
 mod reader;
 mod running;
+mod sink;
 mod standing;
+mod values;
 
-pub use fault::{FileFault, RunFault};
+pub use fault::{FileFault, Position, RunFault};
 pub use printout::write_fault;
 pub use running::{read_sheet, run};
 pub use standing::{StandingPlace, standing_net};

@@ -1,132 +1,79 @@
 // What the lines of a file say to a sheet.
-ghost use Rattle.std.specs.Prelude.{◌≡◌, ℕ, ◌<◌, ◌≤◌, List, [], ◌∷◌, length, ℤ, None, MatchResult};
+ghost use Rattle.std.specs.Prelude.{◌≡◌, ℕ, List, [], ◌∷◌, map, ℤ, MatchResult, slice_index_or, unsigned_abs};
+ghost use Rattle.inline_list.specs.Items.{items};
 ghost use Rattle.grammar.specs.Text.{Record, standing, place, mark};
 ghost use Rattle.grammar.specs.Lines.{Shows};
 ghost use Rattle.netfile.specs.Standing.{standing_places};
 ghost use Rattle.netfile.specs.Order.{rank};
 ghost use Rattle.netfile.specs.Files.{answer, offered, FirstFault};
-ghost use Rattle.netfile.specs.Reading.{values_of, counts_of, held_in, Located, AsSheet, SheetOf, NetRead};
+ghost use Rattle.netfile.specs.Reading.{Unbegun, AsSheet, SheetOf, NetRead};
 
 use crate::reader::Reader;
 use crate::standing::standing_net;
+use crate::values::values_of;
 use crate::{FileFault, RunFault};
 use grammar::{Line, Mark};
-use ledger::Ledger;
+use ledger::{Ledger, Ledgers};
 use sheet::{ClosedSheet, OpenSheet, StepCount};
 
-// How many numbers of the line are at hand.
-pub(crate) fn held(line: &Line) -> usize
-    ensures value { result ≡ held_in line.now }
-    ensures bound { result ≤ 25 }
-{
-    line.count.min(25)
-}
-
-// The numbers of a line, as effects.
-fn effects_of(line: &Line) -> [i32; 25]
-    ensures { length line.now.fields ≡ 25 → result ≡ values_of line.now.fields }
-{
-    let mut effects = [0i32; 25];
-    for k in 0..25usize {
-        effects[k] = line.fields[k].value;
-    }
-    effects
-}
-
-// The numbers of a line, as counts.
-pub(crate) fn counts_of(line: &Line) -> [u32; 25]
-    ensures { length line.now.fields ≡ 25 → result ≡ counts_of line.now.fields }
-{
-    let mut counts = [0u32; 25];
-    for k in 0..25usize {
-        counts[k] = line.fields[k].value.unsigned_abs();
-    }
-    counts
-}
-
-// The fault that the sheet found in what a line says: at the field of the step that it names, or else at the line's begin.
-pub(crate) fn fault_in(line: &Line, number: usize, fault: FileFault) -> RunFault
-    ensures { Located line.now number fault result }
-{
-    let step = match fault {
-        FileFault::Sheet(cause) => cause.step(),
-        _ => 0,
-    };
-    if step == 0 || step > held(line) {
-        return RunFault {
-            fault,
-            line: number,
-            column: 1,
-        };
-    }
-    let field = line.fields[step - 1];
-    RunFault {
-        fault,
-        line: field.line,
-        column: field.column,
-    }
-}
-
 // A sheet of the standing net.
-fn open_standing<L: Ledger + Drop>(current: L, spare: L) -> Result<OpenSheet<L>, FileFault>
-    ensures { AsSheet (offered L.Ledger 7 [] standing_places) (λ sheet. SheetOf L.Ledger sheet (standing ∷ [])) result }
+fn open_standing<L: Ledger + Drop>(ledgers: Ledgers<L>) -> Result<OpenSheet<L>, FileFault>
+    ensures { AsSheet (offered L.Ledger 7 [] standing_places) (λ sheet. SheetOf sheet (standing ∷ [])) result }
 {
     let steps = StepCount::new(7)?;
-    let mut sheet = OpenSheet::open(steps, current, spare);
+    let mut sheet = OpenSheet::open(steps, ledgers);
     let places = standing_net();
-    for place in places.iter() {
+    for place in &places {
         sheet.offer(&place.effects)?;
     }
     Ok(sheet)
 }
 
+// The first number of a line without its sign, 0 where the line has none.
+fn first_number(line: &Line) -> usize
+    ensures { result ≡ slice_index_or (map (λ f. unsigned_abs f.value) (items line.now.fields)) 0 0 }
+{
+    match line.fields.as_slice() {
+        [field, ..] => field.value.unsigned_abs() as usize,
+        [] => 0,
+    }
+}
+
 // The sheet that the first line of a file opens.
-fn open_line<L: Ledger + Drop>(line: &Line, current: L, spare: L) -> Result<OpenSheet<L>, FileFault>
-    ensures { (i : ℕ) (of : Record) → Shows i line.now of → rank (mark of) ≡ 0 → AsSheet (answer L.Ledger [] of) (λ sheet. SheetOf L.Ledger sheet (of ∷ [])) result }
+fn open_line<L: Ledger + Drop>(line: &Line, ledgers: Ledgers<L>) -> Result<OpenSheet<L>, FileFault>
+    ensures { (i : ℕ) (of : Record) → Shows i line.now of → rank (mark of) ≡ 0 → AsSheet (answer L.Ledger [] of) (λ sheet. SheetOf sheet (of ∷ [])) result }
 {
     match line.mark {
-        Mark::Standing => open_standing(current, spare),
+        Mark::Standing => open_standing(ledgers),
         _ => {
-            let steps = StepCount::new(line.fields[0].value.unsigned_abs() as usize)?;
-            Ok(OpenSheet::open(steps, current, spare))
+            let steps = StepCount::new(first_number(line))?;
+            Ok(OpenSheet::open(steps, ledgers))
         }
     }
 }
 
 // Offers the place of a line.
 fn offer_line<L: Ledger>(sheet: &mut OpenSheet<L>, line: &Line) -> Result<(), FileFault>
-    ensures { (i : ℕ) (rs : List Record) (effects : List ℤ) → Shows i line.now (place effects) → SheetOf L.Ledger sheet.old rs → AsSheet (answer L.Ledger rs (place effects)) (λ _. SheetOf L.Ledger sheet.new (place effects ∷ rs)) result }
+    ensures { (i : ℕ) (rs : List Record) (effects : List ℤ) → Shows i line.now (place effects) → SheetOf sheet.old rs → AsSheet (answer L.Ledger rs (place effects)) (λ _. SheetOf sheet.new (place effects ∷ rs)) result }
 {
-    let effects = effects_of(line);
-    sheet.offer(&effects[0..held(line)])?;
+    let effects = values_of::<i32>(line);
+    sheet.offer(effects.as_slice())?;
     Ok(())
 }
 
 // Reads the first line and the places of a file, and closes the sheet that they make.
 pub(crate) fn read_net<L: Ledger + Drop>(
     reader: &mut Reader<'_>,
-    current: L,
-    spare: L,
+    ledgers: Ledgers<L>,
 ) -> Result<ClosedSheet<L>, RunFault>
-    requires some { 0 < length reader.old.file.now }
-    requires at { reader.old.at ≡ 0 }
-    requires lines { reader.old.lines ≡ 0 }
-    requires before { reader.old.before ≡ None }
-    requires questions { reader.old.questions ≡ 0 }
-    ensures file { reader.new.file.now ≡ reader.old.file.now }
-    ensures read { MatchResult result (λ sheet. NetRead L.Ledger reader.old.file.now reader.new.at reader.new.lines reader.new.before reader.new.questions sheet) (λ fault. FirstFault L.Ledger reader.old.file.now fault) }
+    ensures { (s : List ℕ) → Unbegun s reader.old → MatchResult result (λ sheet. NetRead L.Ledger s reader.new sheet) (λ fault. FirstFault L.Ledger s fault) }
 {
-    let first = reader.next_line()?;
-    let mut sheet = match open_line(&first, current, spare) {
-        Ok(sheet) => sheet,
-        Err(fault) => return Err(fault_in(&first, reader.line_number(), fault)),
+    let Some(first) = reader.next_line()? else {
+        return Err(RunFault::of_line(FileFault::Order, 1, 1));
     };
-    while reader.at_place() {
-        let line = reader.next_line()?;
-        match offer_line(&mut sheet, &line) {
-            Ok(()) => {}
-            Err(fault) => return Err(fault_in(&line, reader.line_number(), fault)),
-        }
+    let mut sheet = reader.locate(&first, open_line(&first, ledgers))?;
+    while let Some(line) = reader.next_place()? {
+        reader.locate(&line, offer_line(&mut sheet, &line))?;
     }
     Ok(sheet.close())
 }

@@ -1,20 +1,9 @@
 // The order of the lines of a file, by their marks: `N:` or `S:` once and first, then `P:` lines, then at most 16 `Q:` lines.
 ghost use Rattle.std.specs.Prelude.{◌≡◌, ◌≤◌};
-ghost use Rattle.netfile.specs.Order.{rank, asks, follows, Ordered};
+ghost use Rattle.netfile.specs.Order.{asks, follows, Ordered};
 
 use crate::FileFault;
 use grammar::Mark;
-
-// Which part of the file lines with this mark make up.
-fn rank_of(mark: Mark) -> u8
-    ensures { result ≡ rank mark }
-{
-    match mark {
-        Mark::Steps | Mark::Standing => 0,
-        Mark::Place => 1,
-        Mark::Question => 2,
-    }
-}
 
 // How many questions a line with this mark asks.
 pub(crate) fn asks_of(mark: Mark) -> usize
@@ -31,9 +20,11 @@ pub(crate) fn asks_of(mark: Mark) -> usize
 fn can_follow(before: Option<Mark>, mark: Mark) -> bool
     ensures { result ≡ follows before mark }
 {
-    match before {
-        None => rank_of(mark) == 0,
-        Some(nearest) => rank_of(mark) > 0 && rank_of(nearest) <= rank_of(mark),
+    match (before, mark) {
+        (None, Mark::Steps | Mark::Standing) => true,
+        (Some(Mark::Question), Mark::Place) => false,
+        (Some(_), Mark::Place | Mark::Question) => true,
+        _ => false,
     }
 }
 
@@ -45,13 +36,8 @@ pub(crate) fn in_order(before: Option<Mark>, questions: usize, mark: Mark) -> Re
     if !can_follow(before, mark) {
         return Err(FileFault::Order);
     }
-    match mark {
-        Mark::Question => {
-            if questions >= 16 {
-                return Err(FileFault::TooManyQuestions);
-            }
-            Ok(())
-        }
-        _ => Ok(()),
+    if mark == Mark::Question && questions >= 16 {
+        return Err(FileFault::TooManyQuestions);
     }
+    Ok(())
 }

@@ -1,92 +1,73 @@
-// Text in the caller's buffer. Each call puts its text at `at` and tells where it ends, or finds the buffer too short.
-ghost use Rattle.std.specs.Prelude.{◌≤◌, ◌++◌, length, decimal};
-ghost use Rattle.netfile.specs.Buffers.{Puts};
-ghost use Rattle.netfile.specs.Printouts.{field, fields, line};
+// What is printed: whole texts, and the lines that they are made of, into any sink.
+ghost use Rattle.std.specs.Prelude.{ℕ, List, [], ◌∷◌, ◌++◌, codes};
+ghost use Rattle.std.specs.List.{flat_map};
+ghost use Rattle.netfile.specs.Sinks.{Puts};
+ghost use Rattle.netfile.specs.Printouts.{line, Wrote};
 
 use crate::FileFault;
+use crate::sink::{Measure, Sink, Writer};
+use itoa::{Buffer, Integer};
 
-// A text is gone over twice: measuring leaves the buffer as it is, so that nothing is written where not all of it has room.
-#[derive(Clone, Copy)]
-pub(crate) enum Pass {
-    Measuring,
-    Writing,
+// What can be printed.
+pub(crate) trait Text {
+    // Its bytes.
+    ghost text: { Self → List ℕ };
+
+    fn put_into<S: Sink>(&self, sink: &mut S) -> Result<(), FileFault>
+        ensures { Puts S.room S.takes sink.old (text self.now) result sink.new };
 }
 
-fn put(out: &mut [u8], at: usize, pass: Pass, bytes: &[u8]) -> Result<usize, FileFault>
-    requires { at ≤ length out.old }
-    ensures { Puts pass result bytes.now at out.old out.new }
+// Writes a text to the front of a buffer, and tells how long it is; nothing is written where it has no room.
+pub(crate) fn write<T: Text>(text: &T, out: &mut [u8]) -> Result<usize, FileFault>
+    ensures { Wrote (T.text text.now) result out.old out.new }
 {
-    if bytes.len() > out.len() - at {
-        return Err(FileFault::BufferTooShort);
-    }
-    let end = at + bytes.len();
-    match pass {
-        Pass::Measuring => {}
-        Pass::Writing => out[at..end].copy_from_slice(bytes),
-    }
-    Ok(end)
+    text.put_into(&mut Measure::of(out))?;
+    let mut writer = Writer::new(out);
+    text.put_into(&mut writer)?;
+    Ok(writer.written())
 }
 
-// A number in decimal.
-fn put_number(out: &mut [u8], at: usize, pass: Pass, n: u64) -> Result<usize, FileFault>
-    requires { at ≤ length out.old }
-    ensures { Puts pass result (decimal n) at out.old out.new }
+// One space and the number in decimal.
+fn put_field<S: Sink, N: Integer>(sink: &mut S, n: N) -> Result<(), FileFault>
+    ensures { Puts S.room S.takes sink.old (32 ∷ N.text n) result sink.new }
 {
-    let digit = [b'0' + (n % 10) as u8];
-    if n < 10 {
-        return put(out, at, pass, &digit);
-    }
-    let end = put_number(out, at, pass, n / 10)?;
-    put(out, end, pass, &digit)
-}
-
-// One space and the number.
-fn put_field(out: &mut [u8], at: usize, pass: Pass, n: u64) -> Result<usize, FileFault>
-    requires { at ≤ length out.old }
-    ensures { Puts pass result (field n) at out.old out.new }
-{
-    let end = put(out, at, pass, b" ")?;
-    put_number(out, end, pass, n)
+    sink.put(b" ")?;
+    sink.put(Buffer::new().format(n).as_bytes())
 }
 
 // Each number, after a space.
-fn put_fields(out: &mut [u8], at: usize, pass: Pass, numbers: &[u64]) -> Result<usize, FileFault>
-    requires { at ≤ length out.old }
-    ensures { Puts pass result (fields numbers.now) at out.old out.new }
+fn put_fields<S: Sink, N: Integer>(sink: &mut S, numbers: &[N]) -> Result<(), FileFault>
+    ensures { Puts S.room S.takes sink.old (flat_map (λ n. 32 ∷ N.text n) numbers.now) result sink.new }
 {
-    let mut end = at;
     for n in numbers {
-        end = put_field(out, end, pass, *n)?;
+        put_field(sink, *n)?;
     }
-    Ok(end)
+    Ok(())
 }
 
-// The same of counts.
-fn put_counts(out: &mut [u8], at: usize, pass: Pass, numbers: &[u32]) -> Result<usize, FileFault>
-    requires { at ≤ length out.old }
-    ensures { Puts pass result (fields numbers.now) at out.old out.new }
-{
-    let mut end = at;
-    for n in numbers {
-        end = put_field(out, end, pass, *n as u64)?;
-    }
-    Ok(end)
-}
-
-// A line: its mark, some numbers, some counts, and byte 10.
-pub(crate) fn put_line(
-    out: &mut [u8],
-    at: usize,
-    pass: Pass,
+// A line: its mark, its numbers, and byte 10.
+pub(crate) fn put_line<S: Sink, N: Integer>(
+    sink: &mut S,
     mark: &[u8],
-    numbers: &[u64],
-    counts: &[u32],
-) -> Result<usize, FileFault>
-    requires { at ≤ length out.old }
-    ensures { Puts pass result (line mark.now (numbers.now ++ counts.now)) at out.old out.new }
+    numbers: &[N],
+) -> Result<(), FileFault>
+    ensures { Puts S.room S.takes sink.old (mark.now ++ (flat_map (λ n. 32 ∷ N.text n) numbers.now ++ 10 ∷ [])) result sink.new }
 {
-    let marked = put(out, at, pass, mark)?;
-    let numbered = put_fields(out, marked, pass, numbers)?;
-    let counted = put_counts(out, numbered, pass, counts)?;
-    put(out, counted, pass, b"\n")
+    sink.put(mark)?;
+    put_fields(sink, numbers)?;
+    sink.put(b"\n")
+}
+
+// The line of a certificate: the multiplier, and the coefficients.
+pub(crate) fn put_certificate<S: Sink>(
+    sink: &mut S,
+    multiplier: u32,
+    coefficients: &[u32],
+) -> Result<(), FileFault>
+    ensures { Puts S.room S.takes sink.old (line (codes "A:") (multiplier ∷ coefficients.now)) result sink.new }
+{
+    sink.put(b"A:")?;
+    put_field(sink, multiplier)?;
+    put_fields(sink, coefficients)?;
+    sink.put(b"\n")
 }

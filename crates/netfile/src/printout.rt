@@ -1,98 +1,87 @@
 // The printout of a run, and the line that tells a fault.
-ghost use Rattle.std.specs.Prelude.{ℕ, ◌≤◌, List, length};
+ghost use Rattle.std.specs.Prelude.{◌≡◌, ◌-◌, ◌≤◌, [], length, slice_index_or};
 ghost use Rattle.std.specs.List.{flat_map};
-ghost use Rattle.sheet.specs.Sheets.{closed_list, SoundClosed};
-ghost use Rattle.netfile.specs.Buffers.{Puts};
+ghost use Rattle.sheet.specs.Sheets.{closed_list};
+ghost use Rattle.netfile.specs.Sinks.{Puts};
 ghost use Rattle.netfile.specs.Printouts.{row_line, fault_line, Wrote};
 ghost use Rattle.netfile.specs.Reading.{judged_line, sheet_text};
 
-use crate::printing::{Pass, put_line};
+use crate::printing::{Text, put_certificate, put_line, write};
 use crate::questions::Judged;
-use crate::{FileFault, RunFault};
+use crate::sink::Sink;
+use crate::{FileFault, Position, RunFault};
 use ledger::Ledger;
 use sheet::{Answer, ClosedSheet};
 
-// A `C:` line for each row.
-fn put_rows<L: Ledger>(
-    out: &mut [u8],
-    at: usize,
-    pass: Pass,
-    sheet: &ClosedSheet<L>,
-) -> Result<usize, FileFault>
-    requires fits { at ≤ length out.old }
-    requires sound { SoundClosed L.Ledger sheet.now }
-    ensures { Puts pass result (flat_map row_line (closed_list L.Ledger sheet.now)) at out.old out.new }
-{
-    let n = sheet.steps();
-    let mut end = at;
-    for k in 0..sheet.row_count() {
+// What a run prints.
+#[derive(Drop)]
+struct Printout<'a, L: Ledger> {
+    sheet: &'a ClosedSheet<L>,
+    answers: &'a [Judged],
+}
+
+impl<L: Ledger> Printout<'_, L> {
+    // The line of row k, counted from 1.
+    fn put_row<S: Sink>(&self, sink: &mut S, k: usize) -> Result<(), FileFault>
+        requires { (1 ≤ k) × (k ≤ length (closed_list self.now.sheet.now)) }
+        ensures { Puts S.room S.takes sink.old (row_line (slice_index_or (closed_list self.now.sheet.now) (k - 1) [])) result sink.new }
+    {
         let mut counts = [0u32; 24];
-        sheet.read_row(k + 1, &mut counts)?;
-        end = put_line(out, end, pass, b"C:", &[], &counts[0..n])?;
+        self.sheet.read_row(k, &mut counts)?;
+        put_line(sink, b"C:", &counts[0..self.sheet.steps()])
     }
-    Ok(end)
+
+    // The lines of the rows.
+    fn put_rows<S: Sink>(&self, sink: &mut S) -> Result<(), FileFault>
+        ensures { Puts S.room S.takes sink.old (flat_map row_line (closed_list self.now.sheet.now)) result sink.new }
+    {
+        for k in 1..=self.sheet.row_count() {
+            self.put_row(sink, k)?;
+        }
+        Ok(())
+    }
+
+    // How many coefficients a certificate has: one a row, and no ledger holds more than 1,024 rows.
+    fn coefficient_count(&self) -> usize
+        ensures value { result ≡ length (closed_list self.now.sheet.now) }
+        ensures few { result ≤ 1024 }
+    {
+        self.sheet.row_count()
+    }
+
+    // The line of an answer.
+    fn put_answer<S: Sink>(&self, sink: &mut S, judged: &Judged) -> Result<(), FileFault>
+        ensures { Puts S.room S.takes sink.old (judged_line (length (closed_list self.now.sheet.now)) judged.now) result sink.new }
+    {
+        match judged.answer {
+            Answer::Certified(multiplier) => {
+                let coefficients = &judged.coefficients[..self.coefficient_count()];
+                put_certificate(sink, multiplier, coefficients)
+            }
+            Answer::Broken(place) => put_line(sink, b"R:", &[9, place]),
+            Answer::TooLarge => put_line(sink, b"R:", &[10u32, 0]),
+        }
+    }
+
+    // The lines of the answers.
+    fn put_answers<S: Sink>(&self, sink: &mut S) -> Result<(), FileFault>
+        ensures { Puts S.room S.takes sink.old (flat_map (judged_line (length (closed_list self.now.sheet.now))) self.now.answers.now) result sink.new }
+    {
+        for judged in self.answers {
+            self.put_answer(sink, judged)?;
+        }
+        Ok(())
+    }
 }
 
-// The line of an answer.
-fn put_answer(
-    out: &mut [u8],
-    at: usize,
-    pass: Pass,
-    judged: &Judged,
-    rows: usize,
-) -> Result<usize, FileFault>
-    requires fits { at ≤ length out.old }
-    requires few { rows ≤ 1024 }
-    ensures { Puts pass result (judged_line rows judged.now) at out.old out.new }
-{
-    match judged.answer {
-        Answer::Certified(multiplier) => put_line(
-            out,
-            at,
-            pass,
-            b"A:",
-            &[multiplier as u64],
-            &judged.coefficients[0..rows],
-        ),
-        Answer::Broken(place) => put_line(out, at, pass, b"R:", &[9, place as u64], &[]),
-        Answer::TooLarge => put_line(out, at, pass, b"R:", &[10, 0], &[]),
-    }
-}
+impl<L: Ledger> Text for Printout<'_, L> {
+    ghost text = { λ printout. sheet_text (closed_list printout.sheet.now) printout.answers.now };
 
-// The lines of the answers.
-fn put_answers(
-    out: &mut [u8],
-    at: usize,
-    pass: Pass,
-    answers: &[Judged],
-    rows: usize,
-) -> Result<usize, FileFault>
-    requires fits { at ≤ length out.old }
-    requires few { rows ≤ 1024 }
-    ensures { Puts pass result (flat_map (judged_line rows) answers.now) at out.old out.new }
-{
-    let mut end = at;
-    for judged in answers {
-        end = put_answer(out, end, pass, judged, rows)?;
+    fn put_into<S: Sink>(&self, sink: &mut S) -> Result<(), FileFault> {
+        put_line(sink, b"M:", &[self.sheet.row_count()])?;
+        self.put_rows(sink)?;
+        self.put_answers(sink)
     }
-    Ok(end)
-}
-
-// The whole printout.
-fn put_printout<L: Ledger>(
-    out: &mut [u8],
-    pass: Pass,
-    sheet: &ClosedSheet<L>,
-    answers: &[Judged],
-) -> Result<usize, FileFault>
-    requires sound { SoundClosed L.Ledger sheet.now }
-    requires few { length (closed_list L.Ledger sheet.now) ≤ 1024 }
-    ensures { Puts pass result (sheet_text (closed_list L.Ledger sheet.now) answers.now) 0 out.old out.new }
-{
-    let rows = sheet.row_count();
-    let counted = put_line(out, 0, pass, b"M:", &[rows as u64], &[])?;
-    let listed = put_rows(out, counted, pass, sheet)?;
-    put_answers(out, listed, pass, answers, rows)
 }
 
 // Writes the printout to the front of the buffer, and tells how long it is; nothing is written where it has no room.
@@ -101,25 +90,31 @@ pub(crate) fn print<L: Ledger>(
     sheet: &ClosedSheet<L>,
     answers: &[Judged],
 ) -> Result<usize, FileFault>
-    requires sound { SoundClosed L.Ledger sheet.now }
-    requires few { length (closed_list L.Ledger sheet.now) ≤ 1024 }
-    ensures { Wrote (sheet_text (closed_list L.Ledger sheet.now) answers.now) result out.old out.new }
+    ensures { Wrote (sheet_text (closed_list sheet.now) answers.now) result out.old out.new }
 {
-    put_printout(out, Pass::Measuring, sheet, answers)?;
-    put_printout(out, Pass::Writing, sheet, answers)
+    write(&Printout { sheet, answers }, out)
 }
 
-// Writes a fault to the front of the buffer as `F:` with its number, layer, line and column, and tells how long the line is.
+// A fault is told as `F:` with its number, layer, line and column.
+impl Text for RunFault {
+    ghost text = { fault_line };
+
+    fn put_into<S: Sink>(&self, sink: &mut S) -> Result<(), FileFault> {
+        let at = self.at.unwrap_or(Position { line: 0, column: 0 });
+        let numbers = [
+            self.fault.number() as u64,
+            self.fault.layer() as u64,
+            at.line as u64,
+            at.column as u64,
+        ];
+        put_line(sink, b"F:", &numbers)
+    }
+}
+
+// Writes the line of a fault to the front of the buffer, and tells how long it is.
 // The rest of the buffer stays; where the line has no room, all of it does.
 pub fn write_fault(fault: &RunFault, out: &mut [u8]) -> Result<usize, FileFault>
     ensures { Wrote (fault_line fault.now) result out.old out.new }
 {
-    let numbers = [
-        fault.fault.number() as u64,
-        fault.fault.layer() as u64,
-        fault.line as u64,
-        fault.column as u64,
-    ];
-    put_line(out, 0, Pass::Measuring, b"F:", &numbers, &[])?;
-    put_line(out, 0, Pass::Writing, b"F:", &numbers, &[])
+    write(fault, out)
 }

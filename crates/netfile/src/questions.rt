@@ -1,5 +1,6 @@
 // The questions of a file, each with its answer.
-ghost use Rattle.std.specs.Prelude.{◌≡◌, ℕ, ◌+◌, ◌<◌, ◌≤◌, List, length, take, MatchResult, slice_set};
+ghost use Rattle.std.specs.Prelude.{◌≡◌, ℕ, List, length, MatchResult};
+ghost use Rattle.inline_list.specs.Items.{items};
 ghost use Rattle.cycle_theory.specs.Walk.{outcome};
 ghost use Rattle.sheet.specs.Sheets.{closed_list};
 ghost use Rattle.grammar.specs.Text.{Record, question};
@@ -8,70 +9,29 @@ ghost use Rattle.netfile.specs.Printouts.{outcome_line};
 ghost use Rattle.netfile.specs.Files.{answer, places_of, FirstFault};
 ghost use Rattle.netfile.specs.Reading.{AsSheet, ClosedOf, judged_line, NetRead, FileRead};
 
-use crate::net::{counts_of, fault_in, held};
 use crate::reader::Reader;
+use crate::values::values_of;
 use crate::{FileFault, RunFault};
 use grammar::Line;
+use inline_list::InlineList;
 use ledger::Ledger;
 use sheet::{Answer, ClosedSheet};
 
-// An answer; where it is a certificate, a coefficient for each row comes first in the list.
+// An answer; where it is a certificate, a coefficient for each row comes first in the list, which has room for the most rows of any
+// ledger: a run takes no memory.
 #[derive(Clone, Copy)]
 pub(crate) struct Judged {
     pub(crate) answer: Answer,
     pub(crate) coefficients: [u32; 1024],
 }
 
-// The answers to the questions so far, at most 16.
-#[derive(Drop)]
-pub(crate) struct Answers {
-    count: usize,
-    judged: [Judged; 16],
-}
-
-impl Answers {
-    // No answer.
-    pub(crate) fn none() -> Answers
-        ensures empty { result.count ≡ 0 }
-        ensures wide { length result.judged ≡ 16 }
-    {
-        let nothing = Judged {
-            answer: Answer::TooLarge,
-            coefficients: [0; 1024],
-        };
-        Answers {
-            count: 0,
-            judged: [nothing; 16],
-        }
-    }
-
-    // One answer more.
-    fn add(&mut self, judged: Judged)
-        requires { self.old.count < 16 }
-        ensures count { self.new.count ≡ self.old.count + 1 }
-        ensures judged { self.new.judged ≡ slice_set self.old.judged self.old.count judged }
-    {
-        let n = self.count;
-        self.judged[n] = judged;
-        self.count = n + 1;
-    }
-
-    // All of them, in their order.
-    pub(crate) fn all(&self) -> &[Judged]
-        requires { self.now.count ≤ 16 }
-        ensures { result.now ≡ take self.now.count self.now.judged }
-    {
-        &self.judged[0..self.count]
-    }
-}
-
 // Asks the question of a line.
 fn ask_line<L: Ledger>(sheet: &ClosedSheet<L>, line: &Line) -> Result<Judged, FileFault>
-    ensures { (i : ℕ) (rs : List Record) (counts : List ℕ) → Shows i line.now (question counts) → ClosedOf L.Ledger sheet.now rs → length (closed_list L.Ledger sheet.now) ≤ 1024 → AsSheet (answer L.Ledger rs (question counts)) (λ judged. judged_line (length (closed_list L.Ledger sheet.now)) judged ≡ outcome_line (outcome (places_of rs) (closed_list L.Ledger sheet.now) counts)) result }
+    ensures { (i : ℕ) (rs : List Record) (counts : List ℕ) → Shows i line.now (question counts) → ClosedOf sheet.now rs → AsSheet (answer L.Ledger rs (question counts)) (λ judged. judged_line (length (closed_list sheet.now)) judged ≡ outcome_line (outcome (places_of rs) (closed_list sheet.now) counts)) result }
 {
-    let counts = counts_of(line);
-    let mut coefficients = [0u32; 1024];
-    let answer = sheet.certify(&counts[0..held(line)], &mut coefficients)?;
+    let counts = values_of::<u32>(line);
+    let mut coefficients = [0; 1024];
+    let answer = sheet.certify(counts.as_slice(), &mut coefficients)?;
     Ok(Judged {
         answer,
         coefficients,
@@ -82,21 +42,18 @@ fn ask_line<L: Ledger>(sheet: &ClosedSheet<L>, line: &Line) -> Result<Judged, Fi
 pub(crate) fn read_questions<L: Ledger>(
     reader: &mut Reader<'_>,
     sheet: &ClosedSheet<L>,
-    answers: &mut Answers,
-) -> Result<(), RunFault>
-    requires read { NetRead L.Ledger reader.old.file.now reader.old.at reader.old.lines reader.old.before reader.old.questions sheet.now }
-    requires few { length (closed_list L.Ledger sheet.now) ≤ 1024 }
-    requires empty { answers.old.count ≡ 0 }
-    requires wide { length answers.old.judged ≡ 16 }
-    ensures room { answers.new.count ≤ 16 }
-    ensures read { MatchResult result (λ _. FileRead L.Ledger reader.old.file.now sheet.now (take answers.new.count answers.new.judged)) (λ fault. FirstFault L.Ledger reader.old.file.now fault) }
+) -> Result<InlineList<Judged, 16>, RunFault>
+    requires { (s : List ℕ) × NetRead L.Ledger s reader.old sheet.now }
+    ensures { (s : List ℕ) → NetRead L.Ledger s reader.old sheet.now → MatchResult result (λ answers. FileRead L.Ledger s sheet.now (items answers)) (λ fault. FirstFault L.Ledger s fault) }
 {
-    while !reader.is_done() {
-        let line = reader.next_line()?;
-        match ask_line(sheet, &line) {
-            Ok(judged) => answers.add(judged),
-            Err(fault) => return Err(fault_in(&line, reader.line_number(), fault)),
-        }
+    let mut answers = InlineList::new(Judged {
+        answer: Answer::TooLarge,
+        coefficients: [0; 1024],
+    });
+    while let Some(line) = reader.next_line()? {
+        let judged = reader.locate(&line, ask_line(sheet, &line))?;
+        // There is room: a 17th question is out of order.
+        answers.push(judged).unwrap();
     }
-    Ok(())
+    Ok(answers)
 }

@@ -1,119 +1,115 @@
 // Reads a net file line by line.
-ghost use Rattle.std.specs.Prelude.{◌≡◌, ◌+◌, ◌<◌, ◌≤◌, length, drop, IfOk, None, Decides, nat_le};
-ghost use Rattle.grammar.specs.declared.mark.Mark.TheVariants.{Place};
-ghost use Rattle.grammar.specs.Lines.{Opens};
-ghost use Rattle.netfile.specs.Reading.{LineAnswer, Advanced};
+ghost use Rattle.std.specs.Prelude.{◌≡◌, ◌+◌, ◌^◌, ◌<◌, ◌≤◌, length};
 
 use crate::order::{asks_of, in_order};
 use crate::{FileFault, RunFault};
-use grammar::{Line, Mark, read_line, read_mark};
+use grammar::{BrokenLine, Line, Mark, read_line, read_mark};
 
-// The line that the bytes begin with, line `number` of the file, after the mark `before` and so many questions.
-// The order of its mark is judged first, then its grammar.
-fn first_line(
-    rest: &[u8],
-    number: usize,
-    before: Option<Mark>,
-    questions: usize,
-) -> Result<Line, RunFault>
-    requires some { 0 < length rest.now }
-    requires few { questions ≤ 16 }
-    ensures { LineAnswer rest.now number before questions result }
-{
-    match read_mark(rest) {
-        Err(column) => Err(RunFault {
-            fault: FileFault::Grammar,
-            line: number,
-            column,
-        }),
-        Ok(opening) => match in_order(before, questions, opening.mark) {
-            Err(fault) => Err(RunFault {
-                fault,
-                line: number,
-                column: 1,
-            }),
-            Ok(()) => match read_line(rest, number) {
-                Err(column) => Err(RunFault {
-                    fault: FileFault::Grammar,
-                    line: number,
-                    column,
-                }),
-                Ok(line) => Ok(line),
-            },
-        },
-    }
-}
-
-// A file, and how far it has been read.
+// What is left of a file, and what is known of the lines before it.
 #[derive(Drop)]
 pub(crate) struct Reader<'a> {
-    file: &'a [u8],
-    // Where the next line begins.
-    at: usize,
-    // How many lines came before it, the mark of the nearest, and how many questions are among them.
+    rest: &'a [u8],
+    // How many lines were read, the mark of the nearest, and how many questions are among them.
     lines: usize,
     before: Option<Mark>,
     questions: usize,
+    ghost room: { lines + length rest.now < 2 ^ 64 },
+    ghost few: { questions ≤ 16 },
 }
 
 impl<'a> Reader<'a> {
+    ghost use Rattle.std.specs.Prelude.{Decides, MatchResult, IsErrAnd};
+    ghost use Rattle.grammar.specs.declared.mark.Mark.TheVariants.{Place};
+    ghost use Rattle.grammar.specs.Lines.{Opens};
+    ghost use Rattle.netfile.specs.Reading.{Unbegun, Told, NextLine, NextPlace, Located};
+
     // Nothing has been read.
     pub(crate) fn new(file: &'a [u8]) -> Reader<'a>
-        ensures file { result.file.now ≡ file.now }
-        ensures at { result.at ≡ 0 }
-        ensures lines { result.lines ≡ 0 }
-        ensures before { result.before ≡ None }
-        ensures questions { result.questions ≡ 0 }
+        ensures { Unbegun file.now result }
     {
         Reader {
-            file,
-            at: 0,
+            rest: file,
             lines: 0,
             before: None,
             questions: 0,
         }
     }
 
-    // Whether the file has been read to its end.
-    pub(crate) fn is_done(&self) -> bool
-        ensures { result ≡ nat_le (length self.now.file.now) self.now.at }
+    // The line that comes; the order of its mark is judged first, then its grammar.
+    fn line(&self) -> Result<Line, RunFault>
+        requires { 0 < length self.now.rest.now }
+        ensures { Told self.now result }
     {
-        self.at >= self.file.len()
+        let number = self.lines + 1;
+        let broken = |line: BrokenLine| RunFault::of_line(FileFault::Grammar, number, line.column);
+        let unordered = |fault| RunFault::of_line(fault, number, 1);
+        let opening = read_mark(self.rest).map_err(broken)?;
+        in_order(self.before, self.questions, opening.mark).map_err(unordered)?;
+        read_line(self.rest, number).map_err(broken)
     }
 
-    // Whether the next line is marked as a place.
-    pub(crate) fn at_place(&self) -> bool
-        requires { self.now.at ≤ length self.now.file.now }
-        ensures { Decides result (Opens (drop self.now.at self.now.file.now) Place) }
+    // Reads the next line, if the file goes on.
+    pub(crate) fn next_line(&mut self) -> Result<Option<Line>, RunFault>
+        ensures { NextLine self.old result self.new }
     {
-        match read_mark(&self.file[self.at..]) {
+        if self.rest.is_empty() {
+            return Ok(None);
+        }
+        let line = self.line()?;
+        self.rest = &self.rest[line.end..];
+        self.lines += 1;
+        self.before = Some(line.mark);
+        self.questions += asks_of(line.mark);
+        Ok(Some(line))
+    }
+
+    // Whether the line that comes is marked as a place.
+    fn at_place(&self) -> bool
+        ensures { Decides result (Opens self.now.rest.now Place) }
+    {
+        match read_mark(self.rest) {
             Ok(opening) => matches!(opening.mark, Mark::Place),
             Err(_) => false,
         }
     }
 
-    // Reads the next line.
-    pub(crate) fn next_line(&mut self) -> Result<Line, RunFault>
-        requires some { self.old.at < length self.old.file.now }
-        requires lines { self.old.lines ≤ self.old.at }
-        requires few { self.old.questions ≤ 16 }
-        ensures file { self.new.file.now ≡ self.old.file.now }
-        ensures told { LineAnswer (drop self.old.at self.old.file.now) (self.old.lines + 1) self.old.before self.old.questions result }
-        ensures goes { IfOk result (λ l. Advanced l self.old.at self.old.lines self.old.questions self.new.at self.new.lines self.new.before self.new.questions) }
+    // Reads the next line, if it is marked as a place.
+    pub(crate) fn next_place(&mut self) -> Result<Option<Line>, RunFault>
+        ensures { NextPlace self.old result self.new }
     {
-        let number = self.lines + 1;
-        let line = first_line(&self.file[self.at..], number, self.before, self.questions)?;
-        self.at += line.end;
-        self.lines = number;
-        self.before = Some(line.mark);
-        self.questions += asks_of(line.mark);
-        Ok(line)
+        if self.at_place() {
+            self.next_line()
+        } else {
+            Ok(None)
+        }
     }
 
-    // The number of the line that was read last.
-    pub(crate) fn line_number(&self) -> usize
-        ensures { result ≡ self.now.lines }
+    // The fault that the sheet found in what the last line says: at the field of the step that it names, or else at the line's begin.
+    fn fault_in(&self, line: &Line, fault: FileFault) -> RunFault
+        ensures { Located line.now self.now.lines fault result }
     {
-        self.lines
+        let fields = line.fields.as_slice();
+        let named = match fault {
+            FileFault::Sheet(cause) => cause.step(),
+            _ => None,
+        };
+        match named {
+            Some(step) if 1 <= step && step <= fields.len() => {
+                let field = fields[step - 1];
+                RunFault::of_line(fault, field.line, field.column)
+            }
+            _ => RunFault::of_line(fault, self.lines, 1),
+        }
+    }
+
+    // What the sheet said to the last line, with a fault told at its place.
+    // `map_err` with a closure for `fault_in` would say nothing of the fault that is made.
+    pub(crate) fn locate<T>(&self, line: &Line, said: Result<T, FileFault>) -> Result<T, RunFault>
+        ensures { MatchResult said (λ x. result ≡ Ok x) (λ fault. IsErrAnd result (Located line.now self.now.lines fault)) }
+    {
+        match said {
+            Ok(made) => Ok(made),
+            Err(fault) => Err(self.fault_in(line, fault)),
+        }
     }
 }

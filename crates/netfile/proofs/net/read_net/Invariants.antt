@@ -1,9 +1,10 @@
-use Rattle.std.proofs.Common.{◌-◌, length}
+use Rattle.std.proofs.Common.{List, ℕ, length}
+use Rattle.netfile.specs.Reading.{Unbegun}
 use Rattle.netfile.proofs.Nets.{NetSofar}
 use Rattle.netfile.proofs.net.read_net.Given as goal
 
-abbrev pub invariant-loop-reader : goal.invariant-loop-reader
-invariant-loop-reader g l = NetSofar g.L.Ledger l.initial.reader.file.now l.reader.file.now l.reader.at l.reader.lines l.reader.before l.reader.questions l.sheet
+abbrev pub invariant-loop-sheet : goal.invariant-loop-sheet
+invariant-loop-sheet g l = (s : List ℕ) → Unbegun s l.fn.reader → NetSofar g.L.Ledger s l.reader l.sheet
 
-abbrev pub decreases-loop-reader : goal.decreases-loop-reader
-decreases-loop-reader g l = length l.initial.reader.file.now - l.reader.at
+abbrev pub decreases-loop-sheet : goal.decreases-loop-sheet
+decreases-loop-sheet g l = length l.reader.rest.now

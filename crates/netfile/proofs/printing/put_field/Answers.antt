@@ -1,5 +1,6 @@
-use Rattle.netfile.proofs.Buffers.{puts_both}
+use Rattle.std.proofs.Common.{rules}
+use Rattle.netfile.proofs.Sinks.{puts_both}
 use Rattle.netfile.proofs.printing.put_field.Goals as goal
 
 pub returns : goal.returns
-returns c = puts_both _ _ _ _ _ _ _ _ _ c.in_ok-end.ensures c.put_number.ensures
+returns g c = puts_both g.met.S.Sink.piece_by_piece _ _ _ _ _ _ c.in_ok-put.ensures (search rules)

@@ -1,9 +1,11 @@
-use Rattle.std.proofs.Common.{◌-◌, length}
+use Rattle.std.proofs.Common.{List, ℕ, length}
+use Rattle.inline_list.specs.Items.{items}
+use Rattle.netfile.specs.Reading.{NetRead}
 use Rattle.netfile.proofs.Answering.{Asking}
 use Rattle.netfile.proofs.questions.read_questions.Given as goal
 
-abbrev pub invariant-loop-reader : goal.invariant-loop-reader
-invariant-loop-reader g l = Asking g.L.Ledger l.initial.reader.file.now l.reader.file.now l.reader.at l.reader.lines l.reader.before l.reader.questions l.sheet l.answers.count l.answers.judged
+abbrev pub invariant-loop-line : goal.invariant-loop-line
+invariant-loop-line g l = (s : List ℕ) → NetRead g.L.Ledger s l.fn.reader l.sheet → Asking g.L.Ledger s l.reader l.sheet (items l.answers)
 
-abbrev pub decreases-loop-reader : goal.decreases-loop-reader
-decreases-loop-reader g l = length l.initial.reader.file.now - l.reader.at
+abbrev pub decreases-loop-line : goal.decreases-loop-line
+decreases-loop-line g l = length l.reader.rest.now

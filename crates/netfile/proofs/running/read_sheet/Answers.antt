@@ -1,13 +1,21 @@
-use Rattle.std.proofs.Common.{take, MatchResult}
-use Rattle.netfile.specs.Runs.{SheetRead, Unread}
-use Rattle.netfile.proofs.Runs.{sheet_cases}
+use Rattle.std.proofs.Common.{Ok}
+use Rattle.inline_list.specs.Items.{items}
+use Rattle.netfile.proofs.Passed.{at_fault}
+use Rattle.netfile.proofs.Runs.{sheet_read}
 use Rattle.netfile.proofs.OneAnswer.{one_reading, only_sheet}
 use Rattle.netfile.proofs.running.read_sheet.Goals as goal
 
-pub returns : goal.returns
-returns g c =
-    let k = g.L.Ledger in
+pub returns-in_err-sheet-clause-only : goal.returns-in_err-sheet-clause-only
+returns-in_err-sheet-clause-only g c = only_sheet g.L.Ledger c.args.file.now c.from_residual.result (at_fault _ _ _ c.from_residual.ensures.1 c.in_err-sheet.ensures)
+
+pub returns-in_err-sheet-clause-one : goal.returns-in_err-sheet-clause-one
+returns-in_err-sheet-clause-one g c = one_reading g.L.Ledger
+
+pub returns-clause-only : goal.returns-clause-only
+returns-clause-only g c =
     let s = c.args.file.now in
-    let answers = c.read_file.new.answers in
-    let read : MatchResult c.read_file.result (SheetRead k s) (Unread k s) = sheet_cases k s (take answers.count answers.judged) c.read_file.result c.read_file.ensures.read in
-    record { read = read; only = only_sheet k s c.read_file.result read; one = one_reading k }
+    let sheet = c.in_ok-sheet.sheet in
+    only_sheet g.L.Ledger s (Ok sheet) (sheet_read g.L.Ledger s sheet (items c.in_ok-sheet.field-0-1) c.in_ok-sheet.ensures.1 c.in_ok-sheet.ensures.0)
+
+pub returns-clause-one : goal.returns-clause-one
+returns-clause-one g c = one_reading g.L.Ledger
