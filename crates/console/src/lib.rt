@@ -1,10 +1,10 @@
 // What the programs share: reading an input that may be of any length, and what to print for a net file.
 #![tactic(auto)]
 
-ghost use Rattle.std.specs.Prelude.{◌≤◌, length, IfOk};
+ghost use Rattle.std.specs.Prelude.{◌≤◌, length, IfOk, MatchResult};
 ghost use Rattle.console.specs.Responses.{Responds};
 
-use ledger::Ledger;
+use ledger::{Ledger, Ledgers};
 use netfile::{run, write_fault};
 use std::io;
 use std::io::Read;
@@ -31,47 +31,31 @@ pub fn read_input<R: Read>(input: &mut R, buffer: &mut [u8]) -> io::Result<usize
         }
         count += got;
     }
-    drain(input)?;
+    io::copy(input, &mut io::sink())?;
     Ok(count)
 }
 
-// Reads the input to its end.
-fn drain<R: Read>(input: &mut R) -> io::Result<()> {
-    let mut rest = [0u8; 4096];
-    for _ in 0..u64::MAX {
-        if input.read(&mut rest)? == 0 {
-            break;
-        }
-    }
-    Ok(())
-}
-
-// What a program prints: the first `length` bytes of the buffer, which are the printout or, where there is a fault, its line.
-#[derive(Clone, Copy)]
-pub struct Response {
+// Where a net file has a fault, the line that tells it stands at the front of the buffer, so many bytes long; 0 where it has no room.
+#[derive(Clone, Copy, Debug)]
+pub struct FaultLine {
     pub length: usize,
-    pub is_fault: bool,
 }
 
-// Runs a net file and puts what is to be printed to the front of the buffer. What stands behind it stays.
-pub fn respond<L: Ledger + Drop>(file: &[u8], out: &mut [u8], current: L, spare: L) -> Response
-    ensures within { result.length ≤ length out.new }
-    ensures says { Responds L.Ledger file.now out.old result.is_fault result.length out.new }
+// Runs a net file and puts what is to be printed to the front of the buffer: the printout, of which the length is told, or the line of
+// its fault. What stands behind it stays.
+pub fn respond<L: Ledger + Drop>(
+    file: &[u8],
+    out: &mut [u8],
+    ledgers: Ledgers<L>,
+) -> Result<usize, FaultLine>
+    ensures within { MatchResult result (λ n. n ≤ length out.new) (λ line. line.length ≤ length out.new) }
+    ensures says { Responds L.Ledger file.now out.old result out.new }
 {
-    match run(file, out, current, spare) {
-        Ok(length) => Response {
-            length,
-            is_fault: false,
-        },
-        Err(fault) => match write_fault(&fault, out) {
-            Ok(length) => Response {
-                length,
-                is_fault: true,
-            },
-            Err(_) => Response {
-                length: 0,
-                is_fault: true,
-            },
-        },
+    match run(file, out, ledgers) {
+        Ok(length) => Ok(length),
+        Err(fault) => {
+            let length = write_fault(&fault, out).unwrap_or(0);
+            Err(FaultLine { length })
+        }
     }
 }

@@ -3,21 +3,28 @@
 #![tactic(auto)]
 
 use anyhow::anyhow;
-use ledger::{EntryLedger, Ledger, RuledLedger};
+use ledger::{EntryLedger, Ledger, Ledgers, RuledLedger};
 use netfile::{read_sheet, write_fault};
 use sheet::{ClosedSheet, Comparison, compare};
+use std::alloc::{AllocError, Global};
 use std::io::Write;
 use std::{env, fs};
 
-// The closed sheet of a net file, of which the steps and rows are told; or its fault is.
-fn sheet_of<L: Ledger + Drop>(
+// The closed sheet of a net file on ledgers that `new` makes, of which the steps and rows are told; or its fault is.
+fn sheet_of<L: Ledger + Drop, F: Fn(Global) -> Result<L, AllocError>>(
     rt: &HostRuntime,
     name: &str,
-    ledgers: (L, L),
-) -> anyhow::Result<ClosedSheet<L>> {
-    let (current, spare) = ledgers;
+    new: &F,
+) -> anyhow::Result<ClosedSheet<L>>
+    requires { F.IsAlwaysCallable new.now }
+{
+    let heap = rt.alloc();
+    let ledgers = Ledgers {
+        current: new(heap)?,
+        spare: new(heap)?,
+    };
     let file = fs::read(rt, name)?;
-    match read_sheet(&file, current, spare) {
+    match read_sheet(&file, ledgers) {
         Ok(sheet) => {
             let steps = sheet.steps();
             let rows = sheet.row_count();
@@ -28,43 +35,30 @@ fn sheet_of<L: Ledger + Drop>(
             let mut line = [0u8; 128];
             let length = write_fault(&fault, &mut line).unwrap_or(0).min(128);
             print!(rt; "{name}: ")?;
-            rt.stdout().write_all(&line[0..length])?;
+            rt.stdout().write_all(&line[..length])?;
             Err(anyhow!("a net file has a fault"))
         }
     }
 }
 
-// Compares two net files on ledgers of one kind.
-fn compare_on<L: Ledger + Drop>(
+// Compares two net files on ledgers of the kind that `new` makes.
+fn compare_on<L: Ledger + Drop, F: Fn(Global) -> Result<L, AllocError>>(
     rt: &HostRuntime,
+    kind: &str,
     first: &str,
     second: &str,
-    ledgers: (L, L),
-    others: (L, L),
-) -> anyhow::Result<()> {
-    let a = sheet_of(rt, first, ledgers)?;
-    let b = sheet_of(rt, second, others)?;
+    new: F,
+) -> anyhow::Result<()>
+    requires { F.IsAlwaysCallable new }
+{
+    println!(rt; "on {kind} ledgers")?;
+    let a = sheet_of(rt, first, &new)?;
+    let b = sheet_of(rt, second, &new)?;
     match compare(&a, &b) {
         Comparison::Same => println!(rt; "same cycles")?,
         Comparison::Different => println!(rt; "other cycles")?,
     }
     Ok(())
-}
-
-fn compare_ruled(rt: &HostRuntime, first: &str, second: &str) -> anyhow::Result<()> {
-    let heap = rt.alloc();
-    let ledgers = (RuledLedger::new(heap)?, RuledLedger::new(heap)?);
-    let others = (RuledLedger::new(heap)?, RuledLedger::new(heap)?);
-    println!(rt; "on ruled ledgers")?;
-    compare_on(rt, first, second, ledgers, others)
-}
-
-fn compare_entry(rt: &HostRuntime, first: &str, second: &str) -> anyhow::Result<()> {
-    let heap = rt.alloc();
-    let ledgers = (EntryLedger::new(heap)?, EntryLedger::new(heap)?);
-    let others = (EntryLedger::new(heap)?, EntryLedger::new(heap)?);
-    println!(rt; "on entry ledgers")?;
-    compare_on(rt, first, second, ledgers, others)
 }
 
 // Both kinds are tried, also where one of them is too small for a file.
@@ -75,8 +69,20 @@ fn main(rt: HostRuntime) -> anyhow::Result<()> {
         rt.eprintln("usage: cycles_compare FIRST SECOND")?;
         return Err(anyhow!("two net files are wanted"));
     };
-    let ruled = compare_ruled(&rt, first.as_str(), second.as_str());
-    let entry = compare_entry(&rt, first.as_str(), second.as_str());
+    let ruled = compare_on(
+        &rt,
+        "ruled",
+        first.as_str(),
+        second.as_str(),
+        RuledLedger::new,
+    );
+    let entry = compare_on(
+        &rt,
+        "entry",
+        first.as_str(),
+        second.as_str(),
+        EntryLedger::new,
+    );
     ruled?;
     entry?;
     Ok(())

@@ -1,23 +1,32 @@
 // cycles_entry: reads a net file from standard input, and prints its minimal cycles and the answers to its questions, on entry ledgers.
 // Where the file has a fault, the one line that tells it is printed instead, and the status is 1.
+//
+// `cycles` differs in the kind of ledger alone. What both do to a file stands in `console`; what is left here reads and prints, and of a shared
+// call for that no contract could tell what it prints.
 #![tactic(auto)]
 
 use anyhow::anyhow;
-use console::{INPUT_BYTES, OUTPUT_BYTES, read_input, respond};
-use ledger::EntryLedger;
+use console::{FaultLine, INPUT_BYTES, OUTPUT_BYTES, read_input, respond};
+use ledger::{EntryLedger, Ledgers};
 use std::io::Write;
 
 fn main(rt: HostRuntime) -> anyhow::Result<()> {
-    let mut file = vec![in rt.alloc(); 0u8; INPUT_BYTES]?;
+    let heap = rt.alloc();
+    let mut file = vec![in heap; 0u8; INPUT_BYTES]?;
     let count = read_input(&mut rt.stdin(), &mut file)?;
-    let mut out = vec![in rt.alloc(); 0u8; OUTPUT_BYTES]?;
-    let current = EntryLedger::new(rt.alloc())?;
-    let spare = EntryLedger::new(rt.alloc())?;
-    let response = respond(&file[0..count], &mut out, current, spare);
-    let length = response.length;
-    rt.stdout().write_all(&out[0..length])?;
-    if response.is_fault {
-        return Err(anyhow!("the net file has a fault"));
+    let mut out = vec![in heap; 0u8; OUTPUT_BYTES]?;
+    let ledgers = Ledgers {
+        current: EntryLedger::new(heap)?,
+        spare: EntryLedger::new(heap)?,
+    };
+    match respond(&file[..count], &mut out, ledgers) {
+        Ok(length) => {
+            rt.stdout().write_all(&out[..length])?;
+            Ok(())
+        }
+        Err(FaultLine { length }) => {
+            rt.stdout().write_all(&out[..length])?;
+            Err(anyhow!("the net file has a fault"))
+        }
     }
-    Ok(())
 }

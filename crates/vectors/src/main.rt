@@ -2,8 +2,9 @@
 #![tactic(auto)]
 
 use anyhow::anyhow;
-use console::{OUTPUT_BYTES, respond};
-use ledger::{EntryLedger, Ledger, RuledLedger};
+use console::{FaultLine, OUTPUT_BYTES, respond};
+use ledger::{EntryLedger, Ledger, Ledgers, RuledLedger};
+use std::alloc::{AllocError, Global};
 use std::fs;
 
 // Whether the net file gets the expected bytes on these ledgers.
@@ -11,41 +12,37 @@ fn meets<L: Ledger + Drop>(
     file: &[u8],
     expected: &[u8],
     out: &mut [u8],
-    current: L,
-    spare: L,
+    ledgers: Ledgers<L>,
 ) -> bool {
-    let length = respond(file, out, current, spare).length;
-    &out[0..length] == expected
+    let length = match respond(file, out, ledgers) {
+        Ok(length) | Err(FaultLine { length }) => length,
+    };
+    &out[..length] == expected
 }
 
-// How many of the two kinds of ledger print something else for the net file of this name.
-fn differing(rt: &HostRuntime, name: &str, out: &mut [u8]) -> anyhow::Result<u32> {
+// How many printouts differ, 0 or 1, for the net file of this name on ledgers of the kind that `new` makes.
+fn differing<L: Ledger + Drop, F: Fn(Global) -> Result<L, AllocError>>(
+    rt: &HostRuntime,
+    name: &str,
+    kind: &str,
+    suffix: &str,
+    out: &mut [u8],
+    new: F,
+) -> anyhow::Result<u32>
+    requires { F.IsAlwaysCallable new }
+{
     let heap = rt.alloc();
     let file = fs::read(rt, format!(in heap; "{name}.net")?)?;
-    let ruled = fs::read(rt, format!(in heap; "{name}.out")?)?;
-    let entry = fs::read(rt, format!(in heap; "{name}.entry.out")?)?;
-    let mut wrong = 0;
-    if !meets(
-        &file,
-        &ruled,
-        out,
-        RuledLedger::new(heap)?,
-        RuledLedger::new(heap)?,
-    ) {
-        println!(rt; "{name}: another printout on ruled ledgers")?;
-        wrong += 1;
+    let expected = fs::read(rt, format!(in heap; "{name}{suffix}")?)?;
+    let ledgers = Ledgers {
+        current: new(heap)?,
+        spare: new(heap)?,
+    };
+    if meets(&file, &expected, out, ledgers) {
+        return Ok(0);
     }
-    if !meets(
-        &file,
-        &entry,
-        out,
-        EntryLedger::new(heap)?,
-        EntryLedger::new(heap)?,
-    ) {
-        println!(rt; "{name}: another printout on entry ledgers")?;
-        wrong += 1;
-    }
-    Ok(wrong)
+    println!(rt; "{name}: another printout on {kind} ledgers")?;
+    Ok(1)
 }
 
 fn main(rt: HostRuntime) -> anyhow::Result<()> {
@@ -54,10 +51,11 @@ fn main(rt: HostRuntime) -> anyhow::Result<()> {
     let mut files = 0u32;
     let mut wrong = 0u32;
     for name in index.lines() {
-        let differ = differing(&rt, name, &mut out)?;
+        let ruled = differing(&rt, name, "ruled", ".out", &mut out, RuledLedger::new)?;
+        let entry = differing(&rt, name, "entry", ".entry.out", &mut out, EntryLedger::new)?;
         println!(rt; "{name}")?;
         files = files.saturating_add(1);
-        wrong = wrong.saturating_add(differ);
+        wrong = wrong.saturating_add(ruled).saturating_add(entry);
     }
     println!(rt; "{files} net files on ruled and on entry ledgers, {wrong} other printouts")?;
     if wrong > 0 {
