@@ -22,6 +22,7 @@ impl Walk {
     pub(crate) fn begin(question: &Row) -> Walk
         ensures { Begun question.now.counts result }
     {
+        // With `*question` a proof would not know how many counts there are.
         Walk {
             rest: Row {
                 counts: question.counts,

@@ -70,10 +70,6 @@ keep_same : (f g : Counts → Bool) → ((x : Counts) → f x ≡ g x) → (rows
 keep_same f g h [] = refl
 keep_same f g h (x ∷ rows) = grind arith
 
-map_same : (f g : Counts → Counts) → ((x : Counts) → f x ≡ g x) → (rows : List Counts) → map f rows ≡ map g rows
-map_same f g h [] = refl
-map_same f g h (x ∷ rows) = grind arith
-
 pairs_flow : (p : Place) (us vs : List Counts) → pairs p us vs ≡ flow_pairs (flow p) us vs
 pairs_flow p [] vs = refl
 pairs_flow p (u ∷ us) vs = grind (arith, pairs_flow p us vs, pair_flow)

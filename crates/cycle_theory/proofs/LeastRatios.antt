@@ -6,6 +6,7 @@ use Rattle.cycle_theory.specs.Nets.{Counts, at}
 use Rattle.cycle_theory.specs.Flows.{Factor}
 use Rattle.cycle_theory.specs.Method.{gcd}
 use Rattle.cycle_theory.proofs.Rows.{split, at_past}
+use Rattle.cycle_theory.proofs.Ratios.{by_last}
 use Rattle.cycle_theory.proofs.Divisors.{divisor_divides, divisor_greatest, divisor_positive, one_of_product}
 use Rattle.cycle_theory.specs.Walk.{Ratio, lesser, least_to, lowest, least_ratio}
 use Rattle.cycle_theory.specs.Questions.{LeastRatio}
@@ -15,9 +16,6 @@ abbrev Found : ℕ → (ℕ → ℕ) → (ℕ → ℕ) → Ratio → Type 0
 Found n w y r =
     (((j : ℕ) → j < n → w j ≡ 0) × (r ≡ record { top = 1; bottom = 0 }))
     ⊎ ((j : ℕ) × (0 < w j) × (r ≡ record { top = y j; bottom = w j }) × ((i : ℕ) → i < n → y j * w i ≤ w j * y i))
-
-by_last : (P : ℕ → Type 0) (n : ℕ) → ((i : ℕ) → i < n → P i) → P n → (i : ℕ) → i < suc n → P i
-by_last P n f l i h = grind arith
 
 over : (wj yj wn yn wi yi : ℕ) → 0 < wj → yn * wj < yj * wn → yj * wi ≤ wj * yi → yn * wi ≤ wn * yi
 over wj yj wn yn wi yi pos h k =

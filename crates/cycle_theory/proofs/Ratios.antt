@@ -72,7 +72,7 @@ proportional_equal e f p s l ce cf hp hs h =
 abbrev pub Least : ℕ → (ℕ → ℕ) → (ℕ → ℕ) → Type 0
 Least n w y = ((j : ℕ) → j < n → w j ≡ 0) ⊎ ((j : ℕ) × (0 < w j) × (j < n) × ((i : ℕ) → i < n → y j * w i ≤ w j * y i))
 
-by_last : (P : ℕ → Type 0) (n : ℕ) → ((i : ℕ) → i < n → P i) → P n → (i : ℕ) → i < suc n → P i
+pub by_last : (P : ℕ → Type 0) (n : ℕ) → ((i : ℕ) → i < n → P i) → P n → (i : ℕ) → i < suc n → P i
 by_last P n f l i h = grind arith
 
 -- of three ratios, the least of the first two and the third

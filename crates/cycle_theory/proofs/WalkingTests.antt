@@ -89,6 +89,3 @@ every_fails f (c ∷ x) e = elim (and_cases (f c) (every f x) e) [
   | inl h ↦ (0, omega arith, h)
   | inr h ↦ let t : (j : ℕ) × (j < length x) × (f (at x j) ≡ false) = every_fails f x h in (suc t.0, (let l = t.1 in omega (arith, l)), t.2)
 ]
-
-pub large_at : (x : Counts) → small x ≡ false → (j : ℕ) × (j < length x) × (most < at x j)
-large_at x e = grind (arith, every_fails)

@@ -44,14 +44,11 @@ impl Mark {
     pub(crate) fn has_signs(self) -> bool
         ensures { result ≡ signs self }
     {
-        match self {
-            Mark::Place => true,
-            _ => false,
-        }
+        matches!(self, Mark::Place)
     }
 }
 
-// The mark that the letter begins. Where it begins none, the fault is its column, which only the caller knows: no TryFrom.
+// The mark that the letter begins. No `TryFrom`: its error would say no more than `None` does.
 fn mark_of(first: u8) -> Option<Mark>
     ensures { MatchOption result ((m : Mark) → first ≢ letter m) (λ m. first ≡ letter m) }
 {

@@ -13,6 +13,7 @@ pub(crate) struct Reader<'a> {
     ghost within: { column + length rest.now < 2 ^ 64 },
 }
 
+// Whatever is read, column and rest move together: each call says so, since that relates the reader before and after.
 impl<'a> Reader<'a> {
     // The fault that no line can go on here.
     fn broken(&self) -> BrokenLine

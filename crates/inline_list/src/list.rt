@@ -3,7 +3,7 @@ ghost use Rattle.std.specs.Prelude.{◌≡◌, ◌≤◌, length};
 
 use std::alloc::AllocError;
 
-// At most N items, in the first slots.
+// At most N items, in the first slots. An `ArrayVec` cannot be copied, as places, certificates and lines are.
 pub struct InlineList<T, const N: usize> {
     pub(crate) count: usize,
     pub(crate) slots: [T; N],
@@ -11,6 +11,7 @@ pub struct InlineList<T, const N: usize> {
     ghost wide: { length slots ≡ N },
 }
 
+// Written out, since neither is derived for a generic struct with a ghost field.
 impl<T: Copy, const N: usize> Copy for InlineList<T, N> {}
 
 impl<T: Copy, const N: usize> Clone for InlineList<T, N> {

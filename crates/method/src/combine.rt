@@ -6,7 +6,7 @@ ghost use Rattle.method.specs.Fitting.{Fitted};
 
 use crate::divide::{divided_by, row_divisor};
 use crate::held::Held;
-use ledger::Row;
+use ledger::{MOST_COUNT, Row};
 
 // r × u + s × v in lowest terms; none where a count is then too large to hold.
 pub(crate) fn combine_rows(u: &Held, v: &Held, r: u64, s: u64) -> Option<Held>
@@ -29,13 +29,13 @@ fn weighted_sum(u: &Held, v: &Held, r: u64, s: u64) -> [u64; 24]
     std::array::from_fn(|j| r * u.row.counts[j] as u64 + s * v.row.counts[j] as u64)
 }
 
-// The row with these counts, where a ledger may hold them.
+// The row with these counts, where a ledger may hold them. Certificates narrow their numbers too, under a limit of their own.
 fn fitted(counts: &[u64; 24]) -> Option<Held>
     ensures { Fitted counts.now result }
 {
     let mut row = Row::zeros();
     for (j, &count) in counts.iter().enumerate() {
-        if count > 1_048_575 {
+        if count > u64::from(MOST_COUNT) {
             return None;
         }
         row.counts[j] = count as u32;

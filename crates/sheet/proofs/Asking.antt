@@ -10,7 +10,7 @@ use Rattle.method.specs.Stepping.{wide}
 use Rattle.sheet.specs.declared.fault.SheetFault.TheVariants.{Length, Count, ListTooShort}
 use Rattle.sheet.specs.Certifying.{large, first_large, asking}
 use Rattle.sheet.proofs.Causes.{done_not_refused}
-use Rattle.sheet.proofs.Writing.{at_wide}
+use Rattle.method.proofs.Widening.{at_wide}
 
 none_large : (x : Counts) → ((j : ℕ) → at x j ≤ 1048575) → some large x ≡ false
 none_large [] h = refl

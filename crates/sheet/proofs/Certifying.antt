@@ -29,7 +29,7 @@ use Rattle.sheet.specs.Asking.{Breaks}
 use Rattle.sheet.specs.Certifying.{asking, unless_refused, list_after, Says, Certifying}
 use Rattle.sheet.proofs.Held.{count_held}
 use Rattle.sheet.proofs.Asking.{asked_long}
-use Rattle.sheet.proofs.Writing.{at_wide}
+use Rattle.method.proofs.Widening.{at_wide}
 
 -- zeros behind a row change nothing
 in_use_zeros_behind : (x : Counts) (m : ℕ) → in_use x ≡ in_use (x ++ replicate m 0)

@@ -36,6 +36,7 @@ impl<L: Ledger> OpenSheet<L> {
             return Err(SheetFault::Length);
         }
         let place = Place::new(effects)?;
+        // A copy: a refusal leaves the places of the sheet as they were.
         let mut places = self.places;
         places.push(place)?;
         next_rows(&self.current, &place, &mut self.spare)?;

@@ -17,9 +17,9 @@ pub struct OpenSheet<L: Ledger> {
     pub(crate) places: InlineList<Place, MOST_PLACES>,
     pub(crate) current: L,
     pub(crate) spare: L,
-    ghost held: { Holds L.Ledger steps.n (effects_in places) current },
-    ghost spare_order: { ∥ L.Ledger.orderly spare ∥₁ },
-    ghost spare_empty: { L.Ledger.rows spare ≡ [] },
+    pub ghost held: { Holds L.Ledger steps.n (effects_in places) current },
+    pub ghost spare_order: { ∥ L.Ledger.orderly spare ∥₁ },
+    pub ghost spare_empty: { L.Ledger.rows spare ≡ [] },
 }
 
 // A sheet that takes no more places, with the places and the rows that it was closed with.
@@ -28,5 +28,5 @@ pub struct ClosedSheet<L: Ledger> {
     pub(crate) steps: StepCount,
     pub(crate) places: InlineList<Place, MOST_PLACES>,
     pub(crate) rows: L,
-    ghost held: { Holds L.Ledger steps.n (effects_in places) rows },
+    pub ghost held: { Holds L.Ledger steps.n (effects_in places) rows },
 }

@@ -18,7 +18,7 @@ impl Place {
         }
     }
 
-    // The place with no effects, for tables.
+    // The place with no effects, a blank for lists of places.
     pub fn none() -> Place
         ensures { effects_of result ≡ [] }
     {

@@ -13,6 +13,7 @@ impl Place {
     {
         let mut total = 0i64;
         let effects = self.effects();
+        // By the number of the step: each effect goes with the count of its step.
         for (j, effect) in effects.iter().enumerate() {
             total += *effect as i64 * row.counts[j] as i64;
         }
