@@ -16,7 +16,7 @@ pub const INPUT_BYTES: usize = 16_385;
 pub const OUTPUT_BYTES: usize = 131_072;
 
 // Reads the input into the buffer until it ends or the buffer is full, and tells how many bytes came. What has no room is read and
-// let go, so that whoever writes the input is not cut off.
+// let go, so that whoever writes the input is not cut off. The buffer is the caller's: a call fails where reading does, and never for memory.
 pub fn read_input<R: Read>(input: &mut R, buffer: &mut [u8]) -> io::Result<usize>
     ensures { IfOk result (λ n. n ≤ length buffer.new) }
 {
@@ -35,7 +35,7 @@ pub fn read_input<R: Read>(input: &mut R, buffer: &mut [u8]) -> io::Result<usize
     Ok(count)
 }
 
-// Where a net file has a fault, the line that tells it stands at the front of the buffer, so many bytes long; 0 where it has no room.
+// A net file has a fault: so many bytes at the front of the buffer are the line that tells it, and none where it has no room.
 #[derive(Clone, Copy, Debug)]
 pub struct FaultLine {
     pub length: usize,

@@ -10,19 +10,24 @@ use std::alloc::{AllocError, Global};
 use std::io::Write;
 use std::{env, fs};
 
-// The closed sheet of a net file on ledgers that `new` makes, of which the steps and rows are told; or its fault is.
-fn sheet_of<L: Ledger + Drop, F: Fn(Global) -> Result<L, AllocError>>(
-    rt: &HostRuntime,
-    name: &str,
+// Two ledgers of the kind that `new` makes.
+fn ledgers_of<L: Ledger + Drop, F: Fn(Global) -> Result<L, AllocError>>(
+    heap: Global,
     new: &F,
-) -> anyhow::Result<ClosedSheet<L>>
+) -> Result<Ledgers<L>, AllocError>
     requires { F.IsAlwaysCallable new.now }
 {
-    let heap = rt.alloc();
-    let ledgers = Ledgers {
-        current: new(heap)?,
-        spare: new(heap)?,
-    };
+    let current = new(heap)?;
+    let spare = new(heap)?;
+    Ok(Ledgers { current, spare })
+}
+
+// The closed sheet of a net file, of which the steps and rows are told; or its fault is.
+fn sheet_of<L: Ledger + Drop>(
+    rt: &HostRuntime,
+    name: &str,
+    ledgers: Ledgers<L>,
+) -> anyhow::Result<ClosedSheet<L>> {
     let file = fs::read(rt, name)?;
     match read_sheet(&file, ledgers) {
         Ok(sheet) => {
@@ -51,9 +56,11 @@ fn compare_on<L: Ledger + Drop, F: Fn(Global) -> Result<L, AllocError>>(
 ) -> anyhow::Result<()>
     requires { F.IsAlwaysCallable new }
 {
+    let ledgers = ledgers_of(rt.alloc(), &new)?;
+    let others = ledgers_of(rt.alloc(), &new)?;
     println!(rt; "on {kind} ledgers")?;
-    let a = sheet_of(rt, first, &new)?;
-    let b = sheet_of(rt, second, &new)?;
+    let a = sheet_of(rt, first, ledgers)?;
+    let b = sheet_of(rt, second, others)?;
     match compare(&a, &b) {
         Comparison::Same => println!(rt; "same cycles")?,
         Comparison::Different => println!(rt; "other cycles")?,

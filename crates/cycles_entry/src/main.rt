@@ -1,8 +1,8 @@
 // cycles_entry: reads a net file from standard input, and prints its minimal cycles and the answers to its questions, on entry ledgers.
 // Where the file has a fault, the one line that tells it is printed instead, and the status is 1.
 //
-// `cycles` differs in the kind of ledger alone. What both do to a file stands in `console`; what is left here reads and prints, and of a shared
-// call for that no contract could tell what it prints.
+// `cycles` differs in the kind of ledger alone. What both do to a file stands in `console`; the rest reads and prints. A call that both could
+// share would be public, and each public call has a contract that pins its result, which none can of what is printed.
 #![tactic(auto)]
 
 use anyhow::anyhow;

@@ -43,16 +43,16 @@ asked_right_length : (n : ℕ) (counts : List ℕ) → asked n counts ≡ Ok tt 
 asked_right_length n counts h =
     elim (cases_eq (length counts) n) [
       | inl e ↦ e
-      | inr d ↦ let e : Ok tt ≡ Err Length = sym h ∙ asked_wrong_length n counts d in let z : ◌≡◌ {A = ℕ} 0 1 = cc in absurd (omega arith)
+      | inr d ↦ let e : Ok tt ≡ Err Length = sym h ∙ asked_wrong_length n counts d in cc
     ]
 
 refused_from : (o : verdict.Outcome) (a : Answer) (fault : SheetFault) → unless_refused o a ≡ Err fault → o ≡ Err fault
-refused_from (Ok _) a fault e = let z : ◌≡◌ {A = ℕ} 0 1 = cc in absurd (omega arith)
+refused_from (Ok _) a fault e = cc
 refused_from (Err f) a fault e = let same : f ≡ fault = cc in ap Err same
 
 answered_from : (o : verdict.Outcome) (a answer : Answer) → unless_refused o a ≡ Ok answer → (o ≡ Ok tt) × (answer ≡ a)
 answered_from (Ok _) a answer e = let same : answer ≡ a = cc in (refl, same)
-answered_from (Err f) a answer e = let z : ◌≡◌ {A = ℕ} 0 1 = cc in absurd (omega arith)
+answered_from (Err f) a answer e = cc
 
 -- the answer and the list that it leaves tell the outcome
 tells_outcome : (n : ℕ) (places : List (List ℤ)) (x : List ℕ) (o : Outcome) (list : List ℕ) → Right n places x o → answer_line (answer_of o) (take (length (tss n places)) (list_after (coefficients_in o) list (Ok (answer_of o)))) ≡ outcome_line o

@@ -111,7 +111,7 @@ module _ (i : ℕ) (l : Line) (of : Record) (shows : Shows i l of) where
   place_told : (named : Option ℕ) → (named ≡ None) ⊎ (length (numbers of) ≤ 25) → place_at (items l.fields) i named ≡ record { line = i; column = column_at (numbers of) named }
   place_told None few = refl
   place_told (Some step) few =
-      elim few [ inl none ↦ let z : ◌≡◌ {A = ℕ} 0 1 = cc in absurd (omega arith) | inr short ↦ step_told step short ]
+      elim few [ inl none ↦ cc | inr short ↦ step_told step short ]
 
   pub told_at : (fault : SheetFault) → (bracket fault ≡ None) ⊎ (length (numbers of) ≤ 25) → place_at (items l.fields) i (bracket fault) ≡ record { line = i; column = column_of of fault }
   told_at fault few = place_told (bracket fault) few

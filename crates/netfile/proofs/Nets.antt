@@ -62,10 +62,10 @@ quiet_first (question counts) h = absurd (omega arith)
 
 -- a line that is marked as a place
 place_of : (r : Record) → mark r ≡ Place → (effects : List ℤ) × (r ≡ place effects)
-place_of (steps n) e = let z : ◌≡◌ {A = ℕ} 0 1 = cc in absurd (omega arith)
-place_of standing e = let z : ◌≡◌ {A = ℕ} 0 1 = cc in absurd (omega arith)
+place_of (steps n) e = cc
+place_of standing e = cc
 place_of (place effects) e = (effects, refl)
-place_of (question counts) e = let z : ◌≡◌ {A = ℕ} 0 1 = cc in absurd (omega arith)
+place_of (question counts) e = cc
 
 pub place_line : (r : Reader) (l : Line) (x : Comes r l) → Opens r.rest.now Place → (effects : List ℤ) × (x.0.of ≡ place effects)
 place_line r l x o = place_of x.0.of (same_mark r.rest.now (mark x.0.of) Place (begins_mark r.rest.now x.0.of l.end x.0.begins).1 o.1)

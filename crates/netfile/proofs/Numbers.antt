@@ -1,6 +1,7 @@
 -- The numbers that a line holds are those of its record.
-use Rattle.std.proofs.Common.{◌≡◌, ℕ, List, [], ◌∷◌, map, take, ℤ, pos, nat_abs, sym, refl, ap, ◌∙◌, arith}
-use Rattle.std.proofs.lemmas.List.{length-map, length-take, get_or-take, get_or-map, ext_get_or}
+use Rattle.std.proofs.Common.{◌≡◌, ℕ, List, map, take, ℤ, pos, nat_abs, sym, ap, ◌∙◌, arith}
+use Rattle.std.proofs.lemmas.Simd.{map-map}
+use Rattle.std.proofs.lemmas.List.{map-id, length-map, length-take, get_or-take, get_or-map, ext_get_or}
 use Rattle.inline_list.specs.Items.{items}
 use Rattle.grammar.specs.declared.line.Field.{Field}
 use Rattle.grammar.specs.declared.line.Line.{Line}
@@ -24,16 +25,8 @@ values of i l r shows =
     ∙ sym (get_or-map of ns j (pos 0) (of (pos 0)) (omega arith))
     ∙ sym (get_or-take 25 (map of ns) j (of (pos 0)) (omega arith)))
 
-map_same : (ns : List ℤ) → map (λ z. z) ns ≡ ns
-map_same [] = refl
-map_same (n ∷ ns) = ap (λ l. n ∷ l) (map_same ns)
-
-map_nat_abs : (cs : List ℕ) → map nat_abs (map pos cs) ≡ cs
-map_nat_abs [] = refl
-map_nat_abs (c ∷ cs) = ap (λ l. c ∷ l) (map_nat_abs cs)
-
 pub effects_held : (i : ℕ) (l : Line) (effects : List ℤ) → Shows i l (place effects) → map (λ f. f.value) (items l.fields) ≡ take 25 effects
-effects_held i l effects shows = values (λ z. z) i l (place effects) shows ∙ ap (take 25) (map_same effects)
+effects_held i l effects shows = values (λ z. z) i l (place effects) shows ∙ ap (take 25) (map-id effects)
 
 pub counts_held : (i : ℕ) (l : Line) (counts : List ℕ) → Shows i l (question counts) → map (λ f. nat_abs f.value) (items l.fields) ≡ take 25 counts
-counts_held i l counts shows = values nat_abs i l (question counts) shows ∙ ap (take 25) (map_nat_abs counts)
+counts_held i l counts shows = values nat_abs i l (question counts) shows ∙ ap (take 25) (map-map nat_abs pos counts ∙ map-id counts)

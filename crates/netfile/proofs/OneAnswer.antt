@@ -59,7 +59,7 @@ one_column s c d x y = x.told ∙ ap (λ j. j + 1) (one_break s x.bytes y.bytes 
 
 nearest_of_some : (rs : List Record) → 0 < length rs → nearest rs ≡ None → ⊥
 nearest_of_some [] some e = omega arith
-nearest_of_some (r ∷ rs) some e = let z : ◌≡◌ {A = ℕ} 0 1 = cc in omega arith
+nearest_of_some (r ∷ rs) some e = cc
 
 -- at one place of a file: the records before it, and the bytes from there on
 module _ {L : Type 0} (k : Kind L) (rs : List Record) (s : List ℕ) where
@@ -116,8 +116,7 @@ module _ {L : Type 0} (k : Kind L) (rs : List Record) (s : List ℕ) where
   accepted_not_refused r e begins may done c (Sheet x) h =
       let same : r ≡ h.of = (same_line s r h.of e h.end begins h.begins).0 in
       let both : ◌≡◌ {A = Outcome} (Ok tt) (Err x) = sym done ∙ ap (answer k rs) same ∙ h.refused in
-      let z : ◌≡◌ {A = ℕ} 0 1 = cc in
-      omega arith
+      cc
   accepted_not_refused r e begins may done c BufferTooShort h = h
   accepted_not_refused r e begins may done c TooLong h = h
 
@@ -254,8 +253,7 @@ module _ {L : Type 0} (k : Kind L) (s : List ℕ) where
   right_not_unread f rs short right u =
       let told = unread_fate f f.fault refl u in
       let both : None ≡ Some f = ap fault_of (one_fate (read rs None) told.0 (short, reads_right rs right) told.1) ∙ told.2 in
-      let z : ◌≡◌ {A = ℕ} 0 1 = cc in
-      omega arith
+      cc
 
   one_fault : (f g : RunFault) → Unread k s f → Unread k s g → f ≡ g
   one_fault f g u v =

@@ -25,5 +25,5 @@ mapped Q (Err e) h is = (e, refl, subst (λ a. IsErrAnd a (Q e)) is h)
 
 -- and where it is done, so is r
 pub unmapped : {T D E : Type 0} (P : E → D → Type 0) (r : Result T E) {m : Result T D} {x : T} → Mapped P r m → m ≡ Ok x → r ≡ Ok x
-unmapped P (Ok y) {m} {x} h is = let e : m ≡ Ok y = h in let same : y ≡ x = cc in ap Ok same
+unmapped P (Ok y) {m} {x} h is = let e : m ≡ Ok y = h in cc
 unmapped P (Err e) h is = absurd (subst (λ a. IsErrAnd a (P e)) is h)

@@ -29,7 +29,7 @@ pub right_length : {L : Type 0} (k : Kind L) (n : ℕ) (places : List (List ℤ)
 right_length k n places p h =
     elim (cases_eq (length p) n) [
       | inl e ↦ e
-      | inr d ↦ let e : Ok tt ≡ Err Length = sym h ∙ wrong_length k n places p d in let z : ◌≡◌ {A = ℕ} 0 1 = cc in absurd (omega arith)
+      | inr d ↦ let e : Ok tt ≡ Err Length = sym h ∙ wrong_length k n places p d in cc
     ]
 
 -- and a question that is asked as many counts

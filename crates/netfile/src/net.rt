@@ -29,7 +29,7 @@ fn open_standing<L: Ledger + Drop>(ledgers: Ledgers<L>) -> Result<OpenSheet<L>, 
     Ok(sheet)
 }
 
-// The first number of a line without its sign, 0 where the line has none.
+// The number of a line of steps, of which the grammar has one; where there were none, 0 steps are refused as none.
 fn first_number(line: &Line) -> usize
     ensures { result ≡ slice_index_or (map (λ f. unsigned_abs f.value) (items line.now.fields)) 0 0 }
 {

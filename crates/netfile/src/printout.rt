@@ -35,6 +35,7 @@ impl<L: Ledger> Printout<'_, L> {
     fn put_rows<S: Sink>(&self, sink: &mut S) -> Result<(), FileFault>
         ensures { Puts S.room S.takes sink.old (flat_map row_line (closed_list self.now.sheet.now)) result sink.new }
     {
+        // A closed sheet tells its rows by number.
         for k in 1..=self.sheet.row_count() {
             self.put_row(sink, k)?;
         }

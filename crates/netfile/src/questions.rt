@@ -1,5 +1,5 @@
 // The questions of a file, each with its answer.
-ghost use Rattle.std.specs.Prelude.{◌≡◌, ℕ, List, length, MatchResult};
+ghost use Rattle.std.specs.Prelude.{◌≡◌, ℕ, List, [], length, MatchResult};
 ghost use Rattle.inline_list.specs.Items.{items};
 ghost use Rattle.cycle_theory.specs.Walk.{outcome};
 ghost use Rattle.sheet.specs.Sheets.{closed_list};
@@ -38,22 +38,34 @@ fn ask_line<L: Ledger>(sheet: &ClosedSheet<L>, line: &Line) -> Result<Judged, Fi
     })
 }
 
-// Reads the questions to the file's end, and answers each.
+// The answers to the questions of a file: of a 17th none is given.
+pub(crate) type Answers = InlineList<Judged, 16>;
+
+// No answer.
+pub(crate) fn no_answers() -> Answers
+    ensures { items result ≡ [] }
+{
+    InlineList::new(Judged {
+        answer: Answer::TooLarge,
+        coefficients: [0; 1024],
+    })
+}
+
+// Reads the questions to the file's end, and answers each. The caller lends the list, since moving 64 KiB from call to call takes as long
+// as the rest of a small run.
 pub(crate) fn read_questions<L: Ledger>(
     reader: &mut Reader<'_>,
     sheet: &ClosedSheet<L>,
-) -> Result<InlineList<Judged, 16>, RunFault>
-    requires { (s : List ℕ) × NetRead L.Ledger s reader.old sheet.now }
-    ensures { (s : List ℕ) → NetRead L.Ledger s reader.old sheet.now → MatchResult result (λ answers. FileRead L.Ledger s sheet.now (items answers)) (λ fault. FirstFault L.Ledger s fault) }
+    answers: &mut Answers,
+) -> Result<(), RunFault>
+    requires net { (s : List ℕ) × NetRead L.Ledger s reader.old sheet.now }
+    requires none { items answers.old ≡ [] }
+    ensures { (s : List ℕ) → NetRead L.Ledger s reader.old sheet.now → MatchResult result (λ _. FileRead L.Ledger s sheet.now (items answers.new)) (λ fault. FirstFault L.Ledger s fault) }
 {
-    let mut answers = InlineList::new(Judged {
-        answer: Answer::TooLarge,
-        coefficients: [0; 1024],
-    });
     while let Some(line) = reader.next_line()? {
         let judged = reader.locate(&line, ask_line(sheet, &line))?;
-        // There is room: a 17th question is out of order.
+        // There is room: a 17th question is refused when its line is read.
         answers.push(judged).unwrap();
     }
-    Ok(answers)
+    Ok(())
 }

@@ -103,7 +103,7 @@ impl<'a> Reader<'a> {
     }
 
     // What the sheet said to the last line, with a fault told at its place.
-    // `map_err` with a closure for `fault_in` would say nothing of the fault that is made.
+    // A closure in `map_err` would have to repeat this clause.
     pub(crate) fn locate<T>(&self, line: &Line, said: Result<T, FileFault>) -> Result<T, RunFault>
         ensures { MatchResult said (λ x. result ≡ Ok x) (λ fault. IsErrAnd result (Located line.now self.now.lines fault)) }
     {

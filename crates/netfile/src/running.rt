@@ -1,15 +1,14 @@
 // The run call.
-ghost use Rattle.std.specs.Prelude.{◌≤◌, length, MatchResult};
+ghost use Rattle.std.specs.Prelude.{◌≡◌, ◌≤◌, [], length, MatchResult};
 ghost use Rattle.inline_list.specs.Items.{items};
 ghost use Rattle.netfile.specs.Reading.{FileRead};
 ghost use Rattle.netfile.specs.Runs.{Unread, SheetRead, Ran, OnlyRun, OneReading, OnlySheet};
 
 use crate::net::read_net;
 use crate::printout::print;
-use crate::questions::{Judged, read_questions};
+use crate::questions::{Answers, no_answers, read_questions};
 use crate::reader::Reader;
 use crate::{FileFault, RunFault};
-use inline_list::InlineList;
 use ledger::{Ledger, Ledgers};
 use sheet::ClosedSheet;
 
@@ -20,16 +19,18 @@ const LONGEST: usize = 16_384;
 fn read_file<L: Ledger + Drop>(
     file: &[u8],
     ledgers: Ledgers<L>,
-) -> Result<(ClosedSheet<L>, InlineList<Judged, 16>), RunFault>
-    ensures { MatchResult result (λ read. (length file.now ≤ 16384) × FileRead L.Ledger file.now read.0 (items read.1)) (λ fault. Unread L.Ledger file.now fault) }
+    answers: &mut Answers,
+) -> Result<ClosedSheet<L>, RunFault>
+    requires { items answers.old ≡ [] }
+    ensures { MatchResult result (λ sheet. (length file.now ≤ 16384) × FileRead L.Ledger file.now sheet (items answers.new)) (λ fault. Unread L.Ledger file.now fault) }
 {
     if file.len() > LONGEST {
         return Err(RunFault::of_file(FileFault::TooLong));
     }
     let mut reader = Reader::new(file);
     let sheet = read_net(&mut reader, ledgers)?;
-    let answers = read_questions(&mut reader, &sheet)?;
-    Ok((sheet, answers))
+    read_questions(&mut reader, &sheet, answers)?;
+    Ok(sheet)
 }
 
 // Runs a net file: writes the printout to the front of the buffer and tells how long it is, or tells the first fault.
@@ -42,7 +43,8 @@ pub fn run<L: Ledger + Drop>(
     ensures ran { Ran L.Ledger file.now out.old result out.new }
     ensures only { OnlyRun L.Ledger file.now out.old result out.new }
 {
-    let (sheet, answers) = read_file(file, ledgers)?;
+    let mut answers = no_answers();
+    let sheet = read_file(file, ledgers, &mut answers)?;
     print(out, &sheet, answers.as_slice()).map_err(RunFault::of_file)
 }
 
@@ -55,6 +57,7 @@ pub fn read_sheet<L: Ledger + Drop>(
     ensures only { OnlySheet L.Ledger file.now result }
     ensures one { OneReading L.Ledger }
 {
-    let (sheet, _) = read_file(file, ledgers)?;
+    let mut unread = no_answers();
+    let sheet = read_file(file, ledgers, &mut unread)?;
     Ok(sheet)
 }

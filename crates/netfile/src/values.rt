@@ -22,7 +22,7 @@ impl Value for i32 {
     }
 }
 
-// A count of a question, or the number of steps.
+// A count of a question.
 impl Value for u32 {
     ghost of = { λ z. unsigned_abs z };
 

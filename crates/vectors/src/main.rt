@@ -7,42 +7,40 @@ use ledger::{EntryLedger, Ledger, Ledgers, RuledLedger};
 use std::alloc::{AllocError, Global};
 use std::fs;
 
-// Whether the net file gets the expected bytes on these ledgers.
-fn meets<L: Ledger + Drop>(
+// Whether the net file gets the expected bytes on ledgers of the kind that `new` makes.
+fn meets<L: Ledger + Drop, F: Fn(Global) -> Result<L, AllocError>>(
     file: &[u8],
     expected: &[u8],
     out: &mut [u8],
-    ledgers: Ledgers<L>,
-) -> bool {
-    let length = match respond(file, out, ledgers) {
-        Ok(length) | Err(FaultLine { length }) => length,
-    };
-    &out[..length] == expected
-}
-
-// How many printouts differ, 0 or 1, for the net file of this name on ledgers of the kind that `new` makes.
-fn differing<L: Ledger + Drop, F: Fn(Global) -> Result<L, AllocError>>(
-    rt: &HostRuntime,
-    name: &str,
-    kind: &str,
-    suffix: &str,
-    out: &mut [u8],
+    heap: Global,
     new: F,
-) -> anyhow::Result<u32>
+) -> Result<bool, AllocError>
     requires { F.IsAlwaysCallable new }
 {
+    let current = new(heap)?;
+    let spare = new(heap)?;
+    let length = match respond(file, out, Ledgers { current, spare }) {
+        Ok(length) | Err(FaultLine { length }) => length,
+    };
+    Ok(&out[..length] == expected)
+}
+
+// How many of the two kinds of ledger print something else for the net file of this name.
+fn differing(rt: &HostRuntime, name: &str, out: &mut [u8]) -> anyhow::Result<u32> {
     let heap = rt.alloc();
     let file = fs::read(rt, format!(in heap; "{name}.net")?)?;
-    let expected = fs::read(rt, format!(in heap; "{name}{suffix}")?)?;
-    let ledgers = Ledgers {
-        current: new(heap)?,
-        spare: new(heap)?,
-    };
-    if meets(&file, &expected, out, ledgers) {
-        return Ok(0);
+    let ruled = fs::read(rt, format!(in heap; "{name}.out")?)?;
+    let entry = fs::read(rt, format!(in heap; "{name}.entry.out")?)?;
+    let mut wrong = 0;
+    if !meets(&file, &ruled, out, heap, RuledLedger::new)? {
+        println!(rt; "{name}: another printout on ruled ledgers")?;
+        wrong += 1;
     }
-    println!(rt; "{name}: another printout on {kind} ledgers")?;
-    Ok(1)
+    if !meets(&file, &entry, out, heap, EntryLedger::new)? {
+        println!(rt; "{name}: another printout on entry ledgers")?;
+        wrong += 1;
+    }
+    Ok(wrong)
 }
 
 fn main(rt: HostRuntime) -> anyhow::Result<()> {
@@ -51,11 +49,10 @@ fn main(rt: HostRuntime) -> anyhow::Result<()> {
     let mut files = 0u32;
     let mut wrong = 0u32;
     for name in index.lines() {
-        let ruled = differing(&rt, name, "ruled", ".out", &mut out, RuledLedger::new)?;
-        let entry = differing(&rt, name, "entry", ".entry.out", &mut out, EntryLedger::new)?;
+        let differ = differing(&rt, name, &mut out)?;
         println!(rt; "{name}")?;
         files = files.saturating_add(1);
-        wrong = wrong.saturating_add(ruled).saturating_add(entry);
+        wrong = wrong.saturating_add(differ);
     }
     println!(rt; "{files} net files on ruled and on entry ledgers, {wrong} other printouts")?;
     if wrong > 0 {

@@ -19,7 +19,7 @@ returns-in_err-judged g c s net =
 pub unwrap-requires : goal.unwrap-requires
 unwrap-requires g c =
     let a = subst (λ o. NextLine c.loop-line.reader (Ok o) c.next_line.new.self) c.in-Some.is c.in_ok-line.ensures in
-    let room = room_for g.L.Ledger (c.loop-line.invariant c.requires.0 c.requires.1) c.in-Some.line a.comes in
+    let room = room_for g.L.Ledger (c.loop-line.invariant c.requires.net.0 c.requires.net.1) c.in-Some.line a.comes in
     (pushed 16 _ _ c.push.result _ room c.push.ensures).0
 
 pub loop-line-preserved : goal.loop-line-preserved

@@ -8,10 +8,10 @@ returns-in_err-sheet g c =
     let s = c.args.file.now in
     at_fault _ _ _ c.from_residual.ensures.1 (unread g.L.Ledger s _ (omega arith) (c.in_err-sheet.ensures s c.new-reader.ensures))
 
-pub read_questions-requires : goal.read_questions-requires
-read_questions-requires g c = let s = c.args.file.now in (s, c.in_ok-sheet.ensures s c.new-reader.ensures)
+pub read_questions-requires-clause-net : goal.read_questions-requires-clause-net
+read_questions-requires-clause-net g c = let s = c.args.file.now in (s, c.in_ok-sheet.ensures s c.new-reader.ensures)
 
-pub returns-in_err-answers : goal.returns-in_err-answers
-returns-in_err-answers g c =
+pub returns-in_err-read_questions : goal.returns-in_err-read_questions
+returns-in_err-read_questions g c =
     let s = c.args.file.now in
-    at_fault _ _ _ c.from_residual-in_err-answers.ensures.1 (unread g.L.Ledger s _ (omega arith) (c.in_err-answers.ensures s (c.in_ok-sheet.ensures s c.new-reader.ensures)))
+    at_fault _ _ _ c.from_residual-in_err-read_questions.ensures.1 (unread g.L.Ledger s _ (omega arith) (c.in_err-read_questions.ensures s (c.in_ok-sheet.ensures s c.new-reader.ensures)))

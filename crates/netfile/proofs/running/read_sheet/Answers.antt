@@ -15,7 +15,7 @@ pub returns-clause-only : goal.returns-clause-only
 returns-clause-only g c =
     let s = c.args.file.now in
     let sheet = c.in_ok-sheet.sheet in
-    only_sheet g.L.Ledger s (Ok sheet) (sheet_read g.L.Ledger s sheet (items c.in_ok-sheet.field-0-1) c.in_ok-sheet.ensures.1 c.in_ok-sheet.ensures.0)
+    only_sheet g.L.Ledger s (Ok sheet) (sheet_read g.L.Ledger s sheet (items c.read_file.new.answers) c.in_ok-sheet.ensures.1 c.in_ok-sheet.ensures.0)
 
 pub returns-clause-one : goal.returns-clause-one
 returns-clause-one g c = one_reading g.L.Ledger
