@@ -23,7 +23,8 @@ rows_told a b t told = ∥∥₁_elim a.held.order (hlevel props) (λ o. ∥∥�
 
 -- the rows of an open sheet with one place more, made in its spare ledger
 module _ {L : Type 0} {k : Kind L} (s : OpenSheet L k) (p : List ℤ) (after : L) (answer : Result (Unit {0}) StepFault) (next : Next k p s.current s.spare answer after) where
-  made : k.orderly s.current → k.orderly s.spare → Made k (tss (steps_of s) (places_of s ++ p ∷ [])) answer after
+  -- where both are in order by some proof
+  pub made : k.orderly s.current → k.orderly s.spare → Made k (tss (steps_of s) (places_of s ++ p ∷ [])) answer after
   made o q = next (steps_of s) (places_of s) s.steps.few.1 o s.held.rows q s.spare_empty
 
   pub made_order : ∥ k.orderly after ∥₁

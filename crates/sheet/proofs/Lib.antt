@@ -4,6 +4,7 @@ pub mod Offers
 pub mod Listing
 pub mod Reading
 pub mod Histories
+pub mod Orders
 pub mod Writing
 pub mod Asking
 pub mod Breaking

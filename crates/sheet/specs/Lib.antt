@@ -3,6 +3,7 @@ pub mod Held
 pub mod Verdict
 pub mod Sheets
 pub mod Runs
+pub mod Order
 pub mod Answers
 pub mod Certifying
 pub mod Asking

@@ -2,6 +2,7 @@
 ghost use Rattle.std.specs.Prelude.{◌≡◌};
 ghost use Rattle.sheet.specs.Sheets.{Compared};
 ghost use Rattle.sheet.specs.Runs.{Promise};
+ghost use Rattle.sheet.specs.Order.{OrderOfBoth};
 
 use crate::ClosedSheet;
 use ledger::{Ledger, same_rows};
@@ -17,6 +18,7 @@ pub enum Comparison {
 pub fn compare<L: Ledger, M: Ledger>(a: &ClosedSheet<L>, b: &ClosedSheet<M>) -> Comparison
     ensures compared { Compared a.now b.now result }
     ensures promise { Promise a.now b.now result }
+    ensures order { OrderOfBoth a.now b.now }
 {
     if a.steps.get() == b.steps.get() && same_rows(&a.rows, &b.rows) {
         Comparison::Same

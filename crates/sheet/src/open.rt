@@ -2,6 +2,7 @@
 ghost use Rattle.std.specs.Prelude.{◌≡◌};
 ghost use Rattle.sheet.specs.Sheets.{Opened, Offered, Told, Closed};
 ghost use Rattle.sheet.specs.Runs.{PromiseOfClosing};
+ghost use Rattle.sheet.specs.Order.{Ordered, OrderOfClosing};
 
 use crate::{ClosedSheet, OpenSheet, SheetFault, StepCount};
 use inline_list::InlineList;
@@ -11,7 +12,8 @@ use method::{Place, first_rows, next_rows};
 impl<L: Ledger> OpenSheet<L> {
     // A sheet of the single steps, with no place. Both ledgers are emptied first, whatever they held.
     pub fn open(steps: StepCount, ledgers: Ledgers<L>) -> OpenSheet<L>
-        ensures { Opened steps.n result }
+        ensures opened { Opened steps.n result }
+        ensures order { Ordered result }
     {
         let Ledgers {
             mut current,
@@ -30,7 +32,8 @@ impl<L: Ledger> OpenSheet<L> {
     // Adds the place of these effects, one a step, and its rows; or refuses it with the first cause that holds, and is as it was.
     #[tactic(auto, using(crate::proofs::Causes::told_length, crate::proofs::Offers::told_fault, crate::proofs::Offers::told_places, crate::proofs::Offers::refused_so))]
     pub fn offer(&mut self, effects: &[i32]) -> Result<(), SheetFault>
-        ensures { Offered self.old effects.now result self.new }
+        ensures offered { Offered self.old effects.now result self.new }
+        ensures order { Ordered self.old → Ordered self.new }
     {
         if effects.len() != self.steps.get() {
             return Err(SheetFault::Length);
@@ -59,6 +62,7 @@ impl<L: Ledger> OpenSheet<L> {
         L: Drop,
         ensures closed { Closed self result }
         ensures promise { PromiseOfClosing self result }
+        ensures order { OrderOfClosing self result }
     {
         let OpenSheet {
             steps,
