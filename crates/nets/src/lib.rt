@@ -1,9 +1,10 @@
 // Nets handed over whole: their places in a list.
 #![tactic(auto)]
 
-ghost use Rattle.std.specs.Prelude.{ℕ, map, MatchResult};
+ghost use Rattle.std.specs.Prelude.{ℕ, map, IfOk, MatchResult};
 ghost use Rattle.method.specs.Places.{effects_of};
 ghost use Rattle.sheet.specs.Sheets.{Opened};
+ghost use Rattle.sheet.specs.Order.{Ordered, RowsOrdered};
 ghost use Rattle.nets.specs.Nets.{Filled, SheetOf, Stops, Tells, Refused};
 
 use ledger::{Ledger, Ledgers};
@@ -36,7 +37,8 @@ pub fn closed_sheet<L: Ledger + Drop>(
     net: Net<'_>,
     ledgers: Ledgers<L>,
 ) -> Result<ClosedSheet<L>, SheetFault>
-    ensures { MatchResult result (λ c. SheetOf net.entry.steps.n (map effects_of net.entry.places.now) c) (λ fault. Stops L.Ledger net.entry.steps.n (map effects_of net.entry.places.now) fault) }
+    ensures made { MatchResult result (λ c. SheetOf net.entry.steps.n (map effects_of net.entry.places.now) c) (λ fault. Stops L.Ledger net.entry.steps.n (map effects_of net.entry.places.now) fault) }
+    ensures order { IfOk result (λ c. RowsOrdered c) }
 {
     let mut sheet = OpenSheet::open(net.steps, ledgers);
     offer_each(&mut sheet, net.places)?;
@@ -45,7 +47,8 @@ pub fn closed_sheet<L: Ledger + Drop>(
 
 // Offers each place to a sheet without places, up to the first that is refused.
 fn offer_each<L: Ledger>(sheet: &mut OpenSheet<L>, places: &[Place]) -> Result<(), SheetFault>
-    ensures { (n : ℕ) → Opened n sheet.old → MatchResult result (λ _. Filled n (map effects_of places.now) sheet.new) (λ fault. Stops L.Ledger n (map effects_of places.now) fault) }
+    ensures offered { (n : ℕ) → Opened n sheet.old → MatchResult result (λ _. Filled n (map effects_of places.now) sheet.new) (λ fault. Stops L.Ledger n (map effects_of places.now) fault) }
+    ensures order { Ordered sheet.old → Ordered sheet.new }
 {
     for place in places {
         sheet.offer(place.effects())?;
