@@ -1,6 +1,7 @@
 // What the lines of a file say to a sheet.
-ghost use Rattle.std.specs.Prelude.{◌≡◌, ℕ, List, [], ◌∷◌, map, ℤ, MatchResult, slice_index_or, unsigned_abs};
+ghost use Rattle.std.specs.Prelude.{◌≡◌, ℕ, List, [], ◌∷◌, map, ℤ, IfOk, MatchResult, slice_index_or, unsigned_abs};
 ghost use Rattle.inline_list.specs.Items.{items};
+ghost use Rattle.sheet.specs.Order.{Ordered, RowsOrdered};
 ghost use Rattle.grammar.specs.Text.{Record, standing, place, mark};
 ghost use Rattle.grammar.specs.Lines.{Shows};
 ghost use Rattle.netfile.specs.Standing.{standing_places};
@@ -18,7 +19,8 @@ use sheet::{ClosedSheet, OpenSheet, StepCount};
 
 // A sheet of the standing net.
 fn open_standing<L: Ledger + Drop>(ledgers: Ledgers<L>) -> Result<OpenSheet<L>, FileFault>
-    ensures { AsSheet (offered L.Ledger 7 [] standing_places) (λ sheet. SheetOf sheet (standing ∷ [])) result }
+    ensures said { AsSheet (offered L.Ledger 7 [] standing_places) (λ sheet. SheetOf sheet (standing ∷ [])) result }
+    ensures order { IfOk result (λ sheet. Ordered sheet) }
 {
     let steps = StepCount::new(7)?;
     let mut sheet = OpenSheet::open(steps, ledgers);
@@ -41,7 +43,8 @@ fn first_number(line: &Line) -> usize
 
 // The sheet that the first line of a file opens.
 fn open_line<L: Ledger + Drop>(line: &Line, ledgers: Ledgers<L>) -> Result<OpenSheet<L>, FileFault>
-    ensures { (i : ℕ) (of : Record) → Shows i line.now of → rank (mark of) ≡ 0 → AsSheet (answer L.Ledger [] of) (λ sheet. SheetOf sheet (of ∷ [])) result }
+    ensures said { (i : ℕ) (of : Record) → Shows i line.now of → rank (mark of) ≡ 0 → AsSheet (answer L.Ledger [] of) (λ sheet. SheetOf sheet (of ∷ [])) result }
+    ensures order { IfOk result (λ sheet. Ordered sheet) }
 {
     match line.mark {
         Mark::Standing => open_standing(ledgers),
@@ -54,7 +57,8 @@ fn open_line<L: Ledger + Drop>(line: &Line, ledgers: Ledgers<L>) -> Result<OpenS
 
 // Offers the place of a line.
 fn offer_line<L: Ledger>(sheet: &mut OpenSheet<L>, line: &Line) -> Result<(), FileFault>
-    ensures { (i : ℕ) (rs : List Record) (effects : List ℤ) → Shows i line.now (place effects) → SheetOf sheet.old rs → AsSheet (answer L.Ledger rs (place effects)) (λ _. SheetOf sheet.new (place effects ∷ rs)) result }
+    ensures said { (i : ℕ) (rs : List Record) (effects : List ℤ) → Shows i line.now (place effects) → SheetOf sheet.old rs → AsSheet (answer L.Ledger rs (place effects)) (λ _. SheetOf sheet.new (place effects ∷ rs)) result }
+    ensures order { Ordered sheet.old → Ordered sheet.new }
 {
     let effects = values_of::<i32>(line);
     sheet.offer(effects.as_slice())?;
@@ -66,7 +70,8 @@ pub(crate) fn read_net<L: Ledger + Drop>(
     reader: &mut Reader<'_>,
     ledgers: Ledgers<L>,
 ) -> Result<ClosedSheet<L>, RunFault>
-    ensures { (s : List ℕ) → Unbegun s reader.old → MatchResult result (λ sheet. NetRead L.Ledger s reader.new sheet) (λ fault. FirstFault L.Ledger s fault) }
+    ensures read { (s : List ℕ) → Unbegun s reader.old → MatchResult result (λ sheet. NetRead L.Ledger s reader.new sheet) (λ fault. FirstFault L.Ledger s fault) }
+    ensures order { IfOk result (λ sheet. RowsOrdered sheet) }
 {
     let Some(first) = reader.next_line()? else {
         return Err(RunFault::of_line(FileFault::Order, 1, 1));

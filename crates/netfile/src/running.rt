@@ -1,6 +1,7 @@
 // The run call.
-ghost use Rattle.std.specs.Prelude.{◌≡◌, ◌≤◌, [], length, MatchResult};
+ghost use Rattle.std.specs.Prelude.{◌≡◌, ◌≤◌, [], length, IfOk, MatchResult};
 ghost use Rattle.inline_list.specs.Items.{items};
+ghost use Rattle.sheet.specs.Order.{RowsOrdered};
 ghost use Rattle.netfile.specs.Reading.{FileRead};
 ghost use Rattle.netfile.specs.Runs.{Unread, SheetRead, Ran, OnlyRun, OneReading, OnlySheet};
 
@@ -22,7 +23,8 @@ fn read_file<L: Ledger + Drop>(
     answers: &mut Answers,
 ) -> Result<ClosedSheet<L>, RunFault>
     requires { items answers.old ≡ [] }
-    ensures { MatchResult result (λ sheet. (length file.now ≤ 16384) × FileRead L.Ledger file.now sheet (items answers.new)) (λ fault. Unread L.Ledger file.now fault) }
+    ensures read { MatchResult result (λ sheet. (length file.now ≤ 16384) × FileRead L.Ledger file.now sheet (items answers.new)) (λ fault. Unread L.Ledger file.now fault) }
+    ensures order { IfOk result (λ sheet. RowsOrdered sheet) }
 {
     if file.len() > LONGEST {
         return Err(RunFault::of_file(FileFault::TooLong));
@@ -56,6 +58,7 @@ pub fn read_sheet<L: Ledger + Drop>(
     ensures read { MatchResult result (λ sheet. SheetRead L.Ledger file.now sheet) (λ fault. Unread L.Ledger file.now fault) }
     ensures only { OnlySheet L.Ledger file.now result }
     ensures one { OneReading L.Ledger }
+    ensures order { IfOk result (λ sheet. RowsOrdered sheet) }
 {
     let mut unread = no_answers();
     let sheet = read_file(file, ledgers, &mut unread)?;

@@ -13,7 +13,7 @@ returns-in_err-sheet-clause-only g c =
     let k = g.L.Ledger in
     let s = c.args.file.now in
     let was = c.args.out.now in
-    only_run k s was c.from_residual.result was refl (passed (λ r. Ran k s was r was) c.from_residual.ensures.1 (faulty k s was _ c.in_err-sheet.ensures, refl))
+    only_run k s was c.from_residual.result was refl (passed (λ r. Ran k s was r was) c.from_residual.ensures.1 (faulty k s was _ c.in_err-sheet.ensures.read, refl))
 
 pub returns : goal.returns
 returns g c =
@@ -22,7 +22,7 @@ returns g c =
     let was = c.args.out.now in
     let is = c.print.new.out in
     let sheet = c.in_ok-sheet.sheet in
-    let whole = c.in_ok-sheet.ensures in
+    let whole = c.in_ok-sheet.ensures.read in
     let read : FileRead k s sheet c.as_slice.result.now = subst (FileRead k s sheet) (sym c.as_slice.ensures.value) whole.1 in
     let Of : FileFault → RunFault → Type 0 = λ e f. f ≡ record { fault = e; at = None } in
     let told : Mapped Of c.print.result c.map_err.result = mapped_as Of _ _ _ (λ e d h. search rules) c.map_err.ensures.cases in
