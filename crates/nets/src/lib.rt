@@ -4,8 +4,8 @@
 ghost use Rattle.std.specs.Prelude.{ℕ, map, IfOk, MatchResult};
 ghost use Rattle.method.specs.Places.{effects_of};
 ghost use Rattle.sheet.specs.Sheets.{Opened};
-ghost use Rattle.sheet.specs.Order.{Ordered, RowsOrdered};
-ghost use Rattle.nets.specs.Nets.{Filled, SheetOf, Stops, Tells, Refused};
+ghost use Rattle.sheet.specs.Order.{Ordered};
+ghost use Rattle.nets.specs.Nets.{Filled, FilledInOrder, SheetOf, SheetInOrder, Stops, Tells, Refused};
 
 use ledger::{Ledger, Ledgers};
 use method::Place;
@@ -38,7 +38,7 @@ pub fn closed_sheet<L: Ledger + Drop>(
     ledgers: Ledgers<L>,
 ) -> Result<ClosedSheet<L>, SheetFault>
     ensures made { MatchResult result (λ c. SheetOf net.entry.steps.n (map effects_of net.entry.places.now) c) (λ fault. Stops L.Ledger net.entry.steps.n (map effects_of net.entry.places.now) fault) }
-    ensures order { IfOk result (λ c. RowsOrdered c) }
+    ensures order { IfOk result (λ c. SheetInOrder net.entry.steps.n (map effects_of net.entry.places.now) c) }
 {
     let mut sheet = OpenSheet::open(net.steps, ledgers);
     offer_each(&mut sheet, net.places)?;
@@ -48,7 +48,7 @@ pub fn closed_sheet<L: Ledger + Drop>(
 // Offers each place to a sheet without places, up to the first that is refused.
 fn offer_each<L: Ledger>(sheet: &mut OpenSheet<L>, places: &[Place]) -> Result<(), SheetFault>
     ensures offered { (n : ℕ) → Opened n sheet.old → MatchResult result (λ _. Filled n (map effects_of places.now) sheet.new) (λ fault. Stops L.Ledger n (map effects_of places.now) fault) }
-    ensures order { Ordered sheet.old → Ordered sheet.new }
+    ensures order { (n : ℕ) → Opened n sheet.old → Ordered sheet.old → IfOk result (λ _. FilledInOrder n (map effects_of places.now) sheet.new) }
 {
     for place in places {
         sheet.offer(place.effects())?;
