@@ -31,8 +31,19 @@ pub fn read_input<R: Read>(input: &mut R, buffer: &mut [u8]) -> io::Result<usize
         }
         count += got;
     }
-    io::copy(input, &mut io::sink())?;
+    drain(input)?;
     Ok(count)
+}
+
+// Reads the input to its end. `io::copy` would try an interrupted read again, for as long as it is interrupted; here the caller learns of it.
+fn drain<R: Read>(input: &mut R) -> io::Result<()> {
+    let mut rest = [0u8; 4096];
+    for _ in 0..u64::MAX {
+        if input.read(&mut rest)? == 0 {
+            break;
+        }
+    }
+    Ok(())
 }
 
 // A net file has a fault: so many bytes at the front of the buffer are the line that tells it, and none where it has no room.
