@@ -23,12 +23,12 @@ zeros_balance (p ∷ A) x z = grind (arith, zeros_balance A x z, dot_zeros)
 
 -- a·y = b·x + c·w
 module _ (a : ℕ) (y : Counts) (b : ℕ) (x : Counts) (c : ℕ) (w : Counts) (h : Combines a y b x c w) where
-  balanced_part : (p : Flow) → 0 < b → Balanced p y → Balanced p w → Balanced p x
+  pub balanced_part : (p : Flow) → 0 < b → Balanced p y → Balanced p w → Balanced p x
   balanced_part p hb by bw =
       eq_of_mul-eq-mul_left b hb (gains p x) (losses p x)
       (omega (arith, dot_combines p.gain a y b x c w 0 h, dot_combines p.loss a y b x c w 0 h, ap (λ (m : ℕ). a * m) by, ap (λ (m : ℕ). c * m) bw))
 
-  balanced_whole : (p : Flow) → 0 < a → Balanced p x → Balanced p w → Balanced p y
+  pub balanced_whole : (p : Flow) → 0 < a → Balanced p x → Balanced p w → Balanced p y
   balanced_whole p ha bx bw =
       eq_of_mul-eq-mul_left a ha (gains p y) (losses p y)
       (omega (arith, dot_combines p.gain a y b x c w 0 h, dot_combines p.loss a y b x c w 0 h, ap (λ (m : ℕ). b * m) bx, ap (λ (m : ℕ). c * m) bw))

@@ -19,14 +19,14 @@ same_self : (x : Counts) → same x x ≡ true
 same_self [] = refl
 same_self (a ∷ x) = and_from (eqb a a) (same x x) (eq-eqb a a refl) (same_self x)
 
-true_same : (x y : Counts) → x ≡ y → same x y ≡ true
+pub true_same : (x y : Counts) → x ≡ y → same x y ≡ true
 true_same x y e = grind (arith, same_self)
 
 -- the test `stays` says Kept, and is true where it holds
-stays_kept : (L : List Counts) (z : Counts) → stays L z ≡ true → Kept L z
+pub stays_kept : (L : List Counts) (z : Counts) → stays L z ≡ true → Kept L z
 stays_kept L z t w m b = grind (arith, every_mem, same_true, true_within)
 
-kept_stays : (L : List Counts) (z : Counts) → Kept L z → stays L z ≡ true
+pub kept_stays : (L : List Counts) (z : Counts) → Kept L z → stays L z ≡ true
 kept_stays L z k = grind (arith, mem_every, true_same, within_true)
 
 -- taking equal rows once leaves the same rows
@@ -60,7 +60,7 @@ pub cleaned_mem : (L : List Counts) (z : Counts) → Mem z L → Kept L z → Me
 cleaned_mem L z m k = grind (arith, once_mem, keep_mem, kept_stays)
 
 -- a row is kept, or a different one stands within it
-kept? : (L : List Counts) (z : Counts) → Kept L z ⊎ ((w : Counts) × (Mem w L) × (Within w z) × (w ≡ z → ⊥))
+pub kept? : (L : List Counts) (z : Counts) → Kept L z ⊎ ((w : Counts) × (Mem w L) × (Within w z) × (w ≡ z → ⊥))
 kept? [] z = inl (λ w m b. absurd m)
 kept? (v ∷ L) z = elim (kept? L z) [
   | inr t ↦ inr (t.0, inr t.1, t.2, t.3)
@@ -74,7 +74,7 @@ kept? (v ∷ L) z = elim (kept? L z) [
 ]
 
 -- within each row stands one that is kept: what stands within uses fewer steps, so this comes to an end after k rounds
-kept_within :
+pub kept_within :
     (n : ℕ) (A : List Flow) (L : List Counts) → Reaches n A L → (k : ℕ) (z : Counts) → Mem z L → steps_in_use n (at z) < k →
     (v : Counts) × (Mem v L) × (Kept L v) × Within v z
 kept_within n A L c zero z m h = absurd (not-suc-le-zero h)

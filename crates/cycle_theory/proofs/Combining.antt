@@ -19,7 +19,7 @@ pub record Joined (n r : ℕ) (u : Counts) (s : ℕ) (v z : Counts) : Type 0 whe
   pub long : length z ≡ n
   pub primitive : Primitive z
 
-join : (n r : ℕ) (u : Counts) (s : ℕ) (v : Counts) → length u ≡ n → length v ≡ n → 0 < r → Nonzero u → Joined n r u s v (divided (weighted r u s v))
+pub join : (n r : ℕ) (u : Counts) (s : ℕ) (v : Counts) → length u ≡ n → length v ≡ n → 0 < r → Nonzero u → Joined n r u s v (divided (weighted r u s v))
 join n r u s v lu lv hr nu =
     let x : Counts = weighted r u s v in
     let is : (j : ℕ) → at x j ≡ r * at u j + s * at v j = weighted_at r u s v (lv ∙ sym lu) in

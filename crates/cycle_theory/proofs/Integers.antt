@@ -75,7 +75,7 @@ pairs_flow p [] vs = refl
 pairs_flow p (u ∷ us) vs = grind (arith, pairs_flow p us vs, pair_flow)
 
 -- the rows before cleaning are the same
-rows_flow : (p : Place) (rows : List Counts) → all_rows p rows ≡ flow_rows (flow p) rows
+pub rows_flow : (p : Place) (rows : List Counts) → all_rows p rows ≡ flow_rows (flow p) rows
 rows_flow p rows =
     let zero-rows = keep_same (λ x. is_zero (sum p x)) (λ x. eqb (gains (flow p) x) (losses (flow p) x)) (λ x. grind (arith, sum_said)) rows in
     let gaining = keep_same (λ u. is_positive (sum p u)) (λ u. ltb (losses (flow p) u) (gains (flow p) u)) (λ u. grind (arith, sum_said)) rows in

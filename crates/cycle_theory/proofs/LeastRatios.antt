@@ -73,7 +73,7 @@ module _ (a b : ℕ) (pos : 0 < b) where
   pub gcd_pos : 0 < gcd a b
   gcd_pos = divisor_positive (a ∷ b ∷ []) (1, pos)
 
-  top_times : gcd a b * (a / gcd a b) ≡ a
+  pub top_times : gcd a b * (a / gcd a b) ≡ a
   top_times = grind (arith, divides_top)
 
   pub bottom_times : gcd a b * (b / gcd a b) ≡ b

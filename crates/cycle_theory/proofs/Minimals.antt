@@ -50,7 +50,7 @@ minimal_of_mem n A R i w m = record {
       subst (λ (v : Counts). Within v y) q g.2;
 }
 
-mem_of_minimal : (n : ℕ) (A : List Flow) (R : List Counts) → Cover n A R → (w : Counts) → FlowMinimal n A w → Mem w R
+pub mem_of_minimal : (n : ℕ) (A : List Flow) (R : List Counts) → Cover n A R → (w : Counts) → FlowMinimal n A w → Mem w R
 mem_of_minimal n A R i w m =
     let g : (v : Counts) × (Mem v R) × Within v w = i.covers w m.is.long m.is.cycle m.is.nonzero in
     subst (λ (v : Counts). Mem v R) (unique n A g.0 w (i.good g.0 g.1) m g.2) g.1

@@ -27,7 +27,7 @@ pub flows_minimal : (n : ℕ) (A : List Place) (x : Counts) → FlowMinimal n (m
 flows_minimal n A x m = grind (arith, flows_cycle, cycle_flows)
 
 -- the method is the same
-after_flows : (R : List Counts) (A : List Place) → after R A ≡ flow_after R (map flow A)
+pub after_flows : (R : List Counts) (A : List Place) → after R A ≡ flow_after R (map flow A)
 after_flows R [] = refl
 after_flows R (p ∷ A) = grind (arith, after_flows (step p R) A, step_flow)
 

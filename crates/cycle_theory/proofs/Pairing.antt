@@ -16,7 +16,7 @@ lowered : (p s gy ly gw lw gr lr : ℕ) → 0 < p → p * gy ≡ 1 * gr + s * gw
 lowered p s gy ly gw lw gr lr hp e f h k = omega (arith, mul-lt-mul_of_pos_left h hp, mul-le-mul_left s k)
 
 -- a cycle that a place loses by has a row within it that the place loses by: the walk meets one
-losing_row :
+pub losing_row :
     (n : ℕ) (A : List Flow) (R : List Counts) → Reaches n A R → (g l : List ℕ) (y : Counts) → length y ≡ n → FlowCycle A y → dot g y 0 < dot l y 0 →
     (v : Counts) × (Mem v R) × (Within v y) × (dot g v 0 < dot l v 0)
 losing_row n A R c g l y ly cy h = walk_induction n A R c P none more (suc (steps_in_use n (at y))) y (omega arith) ly cy h
@@ -42,7 +42,7 @@ lose : (p s gx lx gw lw gr lr : ℕ) → 0 < s → p * gx ≡ 1 * gr + s * gw �
 lose p s gx lx gw lw gr lr hs e f h k = omega (arith, ap (λ (m : ℕ). p * m) h, mul-lt-mul_of_pos_left k hs)
 
 -- a balanced cycle that has a row within it by which the place gains has one within it by which the place loses
-opposite_row :
+pub opposite_row :
     (n : ℕ) (A : List Flow) (R : List Counts) → Reaches n A R → (g l : List ℕ) (x : Counts) → length x ≡ n → FlowCycle A x → dot g x 0 ≡ dot l x 0 →
     (w : Counts) → Mem w R → Within w x → dot l w 0 < dot g w 0 → (v : Counts) × (Mem v R) × (Within v x) × (dot g v 0 < dot l v 0)
 opposite_row n A R c g l x lx cx bx w m b h =

@@ -37,7 +37,7 @@ ray_less : (p d : ℕ) (e f : ℕ) → 0 < p → p * e ≡ (p + d) * f → p * (
 ray_less p d e f hp h = omega (arith, mul-sub p e f)
 
 -- proportional rows are multiples of one row: Euclid's algorithm, run on the rows themselves
-ray : (fuel p s : ℕ) (e f : ℕ → ℕ) → 0 < p → 0 < s → p + s ≤ fuel → ((j : ℕ) → p * e j ≡ s * f j) → Ray e f
+pub ray : (fuel p s : ℕ) (e f : ℕ → ℕ) → 0 < p → 0 < s → p + s ≤ fuel → ((j : ℕ) → p * e j ≡ s * f j) → Ray e f
 ray zero p s e f hp hs hf h = absurd (omega arith)
 ray (suc k) p s e f hp hs hf h =
     elim (split s p) [

@@ -19,7 +19,7 @@ pub run_same : (n : ℕ) (A B : List Flow) → ((x : Counts) → length x ≡ n 
 run_same n A B h = determined (flow_run n A) (flow_run n B) (run_cover n A).1 (run_cover n B).1 (same_cycles n A B (flow_run n A) (flow_run n B) (run_cover n A).0 (run_cover n B).0 h)
 
 -- rows that cover cycles cover those of any places with the same cycles
-cover_same : (n : ℕ) (A B : List Flow) (R : List Counts) → ((x : Counts) → length x ≡ n → FlowCycle A x ↔ FlowCycle B x) → Cover n A R → Cover n B R
+pub cover_same : (n : ℕ) (A B : List Flow) (R : List Counts) → ((x : Counts) → length x ≡ n → FlowCycle A x ↔ FlowCycle B x) → Cover n A R → Cover n B R
 cover_same n A B R h i = record {
   good = λ w m.
       let g : Candidate n A w = i.good w m in
@@ -29,7 +29,7 @@ cover_same n A B R h i = record {
 }
 
 -- the next place may stand last
-cover_last : (n : ℕ) (A : List Flow) (R : List Counts) (p : Flow) → Cover n A R → Cover n (A ++ p ∷ []) (flow_step p R)
+pub cover_last : (n : ℕ) (A : List Flow) (R : List Counts) (p : Flow) → Cover n A R → Cover n (A ++ p ∷ []) (flow_step p R)
 cover_last n A R p i = cover_same n (p ∷ A) (A ++ p ∷ []) (flow_step p R) (λ x l. cycle_last A p x) (stepped n A R i p).0
 
 app_assoc : (A B : List Flow) (p : Flow) → (A ++ p ∷ []) ++ B ≡ A ++ p ∷ B

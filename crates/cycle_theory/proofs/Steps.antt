@@ -43,7 +43,7 @@ module _ (p : Flow) (R : List Counts) where
   losing : List Counts
   losing = keep (λ v. ltb (gains p v) (losses p v)) R
 
-  mem_flow_rows : (z : Counts) → Mem z (flow_rows p R) → Born p R z
+  pub mem_flow_rows : (z : Counts) → Mem z (flow_rows p R) → Born p R z
   unfolding stay gaining losing
   mem_flow_rows z m = elim (mem_append z stay (flow_pairs p gaining losing) m) [
     | inl q ↦
@@ -56,13 +56,13 @@ module _ (p : Flow) (R : List Counts) where
         inr (t.0, t.1, mu.0, mv.0, ltb-true (losses p t.0) (gains p t.0) mu.1, ltb-true (gains p t.1) (losses p t.1) mv.1, t.4)
   ]
 
-  flow_rows_mem : (z : Counts) → Born p R z → Mem z (flow_rows p R)
+  pub flow_rows_mem : (z : Counts) → Born p R z → Mem z (flow_rows p R)
   unfolding stay gaining losing
   flow_rows_mem z (inl t) = grind (arith, mem_left, keep_mem)
   flow_rows_mem z (inr t) = grind (arith, mem_right, pairs_mem, keep_mem)
 
 -- before cleaning, the rows reach the cycles of one place more
-flow_rows_reach : (n : ℕ) (A : List Flow) (R : List Counts) → Cover n A R → (p : Flow) → Reaches n (p ∷ A) (flow_rows p R)
+pub flow_rows_reach : (n : ℕ) (A : List Flow) (R : List Counts) → Cover n A R → (p : Flow) → Reaches n (p ∷ A) (flow_rows p R)
 flow_rows_reach n A R i p = record {
   good = λ z m. born_candidate n A R i p z (mem_flow_rows p R z m);
   covers = λ x lx cx nx.

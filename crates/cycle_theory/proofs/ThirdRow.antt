@@ -33,7 +33,7 @@ module _ (n : ℕ) (A : List Flow) (R : List Counts) (i : Cover n A R) (p : Flow
   pub second_row_within : Within v (pair_row p u v)
   second_row_within = search (rules, joined)
 
-  pair_within : (w : Counts) → WithinPair w u v → Within w (pair_row p u v)
+  pub pair_within : (w : Counts) → WithinPair w u v → Within w (pair_row p u v)
   pair_within w h k q = grind (arith, first_row_within, second_row_within)
 
   pub within_pair : (w : Counts) → Within w (pair_row p u v) → WithinPair w u v

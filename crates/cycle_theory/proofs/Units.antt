@@ -45,7 +45,7 @@ unit_below : (n i : ℕ) (x : Counts) → i < n → 0 < at x i → Within (unit 
 unit_below n i x h p j q = grind (arith, delta_pos, unit_at)
 
 -- every count list is a cycle of no place, and has the unit of a step that it uses within it
-unit_rows_cover : (n : ℕ) → Cover n [] (units_to n n)
+pub unit_rows_cover : (n : ℕ) → Cover n [] (units_to n n)
 unit_rows_cover n = record {
   good = λ w m.
       let t : (i : ℕ) × (i < n) × (w ≡ unit n i) = mem_units n n w (omega arith) m in
@@ -72,7 +72,7 @@ mem_units_below n zero w m = absurd m
 mem_units_below n (suc k) w (inl e) = (k, omega arith, e)
 mem_units_below n (suc k) w (inr m) = grind (arith, mem_units_below n k w m)
 
-unit_rows_ascend : (n k : ℕ) → k ≤ n → Ascending (units_to n k)
+pub unit_rows_ascend : (n k : ℕ) → k ≤ n → Ascending (units_to n k)
 unit_rows_ascend n zero l = tt
 unit_rows_ascend n (suc k) l = (
   λ y m.

@@ -25,7 +25,7 @@ module _ (rows : List Counts) (rest : Counts) where
   passed row = not (within row rest)
 
   -- a row with a ratio stands in the list
-  chosen_listed : 0 < (least_ratio (get_or rows (first_within rest rows) []) rest).bottom → first_within rest rows < length rows
+  pub chosen_listed : 0 < (least_ratio (get_or rows (first_within rest rows) []) rest).bottom → first_within rest rows < length rows
   chosen_listed h = grind (arith, get_or_past, no_ratio)
 
   -- it is within the rest
@@ -33,20 +33,20 @@ module _ (rows : List Counts) (rest : Counts) where
   chosen_within h = grind (arith, within_true, fails_there)
 
   -- no row before it is
-  before_not_within : (i : ℕ) → i < first_within rest rows → within (get_or rows i []) rest ≡ false
+  pub before_not_within : (i : ℕ) → i < first_within rest rows → within (get_or rows i []) rest ≡ false
   before_not_within i h = grind (arith, passes_before)
 
   -- the first row within the rest is the chosen one
-  first_is_chosen : (k : ℕ) → k < length rows → ((i : ℕ) → i < k → within (get_or rows i []) rest ≡ false) → within (get_or rows k []) rest ≡ true → first_within rest rows ≡ k
+  pub first_is_chosen : (k : ℕ) → k < length rows → ((i : ℕ) → i < k → within (get_or rows i []) rest ≡ false) → within (get_or rows k []) rest ≡ true → first_within rest rows ≡ k
   first_is_chosen k h before t = grind (arith, first_failing)
 
-  none_is_chosen : ((i : ℕ) → i < length rows → within (get_or rows i []) rest ≡ false) → (least_ratio (get_or rows (first_within rest rows) []) rest).bottom ≡ 0
+  pub none_is_chosen : ((i : ℕ) → i < length rows → within (get_or rows i []) rest ≡ false) → (least_ratio (get_or rows (first_within rest rows) []) rest).bottom ≡ 0
   none_is_chosen all =
       let e : first_within rest rows ≡ length rows = none_failing passed [] rows (λ i l. not_from_false (within (get_or rows i []) rest) (all i l)) in
       ap (λ (row : Counts). (least_ratio row rest).bottom) (get_or_past rows (first_within rest rows) [] (omega (arith, e))) ∙ no_ratio rest
 
 -- a row that is not within the rest is not within what is left of it
-stays_out : (row rest less : Counts) → Within less rest → within row rest ≡ false → within row less ≡ false
+pub stays_out : (row rest less : Counts) → Within less rest → within row rest ≡ false → within row less ≡ false
 stays_out row rest less sub f = grind (arith, true_within, within_true)
 
 -- one round of a walk
@@ -64,7 +64,7 @@ module _ (rows : List Counts) (w : Walk) (h : 0 < (least_ratio (chosen rows w) w
   round_fewer = uses_fewer (chosen rows w) w.rest inside (least_ratio (chosen rows w) w.rest) lowest_ratio
 
   -- every row up to the one that was taken is out from now on
-  round_passes : (i : ℕ) → i < suc (first_within w.rest rows) → within (get_or rows i []) (round rows w).rest ≡ false
+  pub round_passes : (i : ℕ) → i < suc (first_within w.rest rows) → within (get_or rows i []) (round rows w).rest ≡ false
   round_passes i l = elim (split (first_within w.rest rows) i) [
     | inr lt ↦ stays_out (get_or rows i []) w.rest (round rows w).rest
         (left_within (least_ratio (chosen rows w) w.rest).bottom w.rest (least_ratio (chosen rows w) w.rest).top (chosen rows w))
@@ -75,7 +75,7 @@ module _ (rows : List Counts) (w : Walk) (h : 0 < (least_ratio (chosen rows w) w
         (taken_not_within (chosen rows w) w.rest inside (least_ratio (chosen rows w) w.rest) lowest_ratio)
   ]
 
-  round_later : first_within w.rest rows < first_within (round rows w).rest rows
+  pub round_later : first_within w.rest rows < first_within (round rows w).rest rows
   round_later =
       passes_at_least (λ row. not (within row (round rows w).rest)) [] rows (suc (first_within w.rest rows)) listed
       (λ i l. not_from_false (within (get_or rows i []) (round rows w).rest) (round_passes i l))

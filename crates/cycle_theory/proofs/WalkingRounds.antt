@@ -24,7 +24,7 @@ is_least row rest h = grind (arith, least_ratio_is_least)
 
 module _ (row rest : Counts) (inside : Within row rest) (r : Ratio) (l : LeastRatio row rest r) where
   -- nothing is left of the step where the ratio is reached
-  used_up : at (left r.bottom rest r.top row) l.reached.0 ≡ 0
+  pub used_up : at (left r.bottom rest r.top row) l.reached.0 ≡ 0
   used_up = omega (arith, at_left r.bottom rest r.top row l.reached.0, l.reached.2)
 
   pub uses_fewer : in_use (left r.bottom rest r.top row) < in_use rest

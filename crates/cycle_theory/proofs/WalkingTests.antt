@@ -8,16 +8,16 @@ use Rattle.cycle_theory.proofs.Supports.{within_true}
 use Rattle.cycle_theory.specs.Walk.{most, zeros, small, in_use}
 
 -- a test of every count
-every_from : (f : ℕ → Bool) (x : Counts) → ((j : ℕ) → j < length x → f (at x j) ≡ true) → every f x ≡ true
+pub every_from : (f : ℕ → Bool) (x : Counts) → ((j : ℕ) → j < length x → f (at x j) ≡ true) → every f x ≡ true
 every_from f [] h = refl
 every_from f (c ∷ x) h = and_from (f c) (every f x) (h 0 (omega arith)) (every_from f x (λ j l. h (suc j) (omega arith)))
 
-every_at : (f : ℕ → Bool) (x : Counts) → every f x ≡ true → (j : ℕ) → j < length x → f (at x j) ≡ true
+pub every_at : (f : ℕ → Bool) (x : Counts) → every f x ≡ true → (j : ℕ) → j < length x → f (at x j) ≡ true
 every_at f [] t j l = absurd (not-suc-le-zero l)
 every_at f (c ∷ x) t zero l = (and_parts (f c) (every f x) t).0
 every_at f (c ∷ x) t (suc j) l = every_at f x (and_parts (f c) (every f x) t).1 j (le_of_suc-le-suc l)
 
-every_not : (f : ℕ → Bool) (x : Counts) (j : ℕ) → j < length x → f (at x j) ≡ false → every f x ≡ false
+pub every_not : (f : ℕ → Bool) (x : Counts) (j : ℕ) → j < length x → f (at x j) ≡ false → every f x ≡ false
 every_not f [] j l e = absurd (not-suc-le-zero l)
 every_not f (c ∷ x) zero l e = and_left (f c) (every f x) e
 every_not f (c ∷ x) (suc j) l e = and_right (f c) (every f x) (every_not f x j (le_of_suc-le-suc l) e)
@@ -83,7 +83,7 @@ pub in_use_pos : (x : Counts) → zeros x ≡ false → 0 < in_use x
 in_use_pos x f = grind (arith, zeros_from, in_use_zeros)
 
 -- a test that fails somewhere
-every_fails : (f : ℕ → Bool) (x : Counts) → every f x ≡ false → (j : ℕ) × (j < length x) × (f (at x j) ≡ false)
+pub every_fails : (f : ℕ → Bool) (x : Counts) → every f x ≡ false → (j : ℕ) × (j < length x) × (f (at x j) ≡ false)
 every_fails f [] e = absurd (both_ways true e refl)
 every_fails f (c ∷ x) e = elim (and_cases (f c) (every f x) e) [
   | inl h ↦ (0, omega arith, h)

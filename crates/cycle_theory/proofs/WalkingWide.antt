@@ -41,7 +41,7 @@ same_row (u ∷ us) (u' ∷ us') zero s j = s.0 j
 same_row (u ∷ us) (u' ∷ us') (suc k) s j = same_row us us' k s.1 j
 same_row rows rows' k s j = absurd s
 
-same_length : (rows rows' : List Counts) → SameRows rows rows' → length rows ≡ length rows'
+pub same_length : (rows rows' : List Counts) → SameRows rows rows' → length rows ≡ length rows'
 same_length [] [] s = refl
 same_length (u ∷ us) (u' ∷ us') s = ap suc (same_length us us' s.1)
 same_length rows rows' s = absurd s
@@ -121,7 +121,7 @@ same_sum_from : (p : Place) (x x' : Counts) (i : ℕ) → Same x x' → sum_from
 same_sum_from [] x x' i e = refl
 same_sum_from (f ∷ p) x x' i e = grind (arith, same_sum_from p x x' (suc i) e)
 
-same_sum : (p : Place) (x x' : Counts) → Same x x' → sum p x ≡ sum p x'
+pub same_sum : (p : Place) (x x' : Counts) → Same x x' → sum p x ≡ sum p x'
 same_sum p x x' e = sym (sum_from_start p x) ∙ same_sum_from p x x' 0 e ∙ sum_from_start p x'
 
 pub same_unbroken : (places : List Place) (x x' : Counts) → Same x x' → unbroken places x ≡ unbroken places x'
