@@ -129,7 +129,7 @@ module _ (m k s p : ℕ) (shares : List Share) (here : k < m) (b : Before k (row
   length_scaled : length (map (λ c. p * c) told) ≡ m
   length_scaled = length-map told (λ c. p * c) ∙ length_tabulate m (share shares)
 
-  length_raised : length raised ≡ m
+  pub length_raised : length raised ≡ m
   length_raised = length_add_at k s (map (λ c. p * c) told) ∙ length_scaled
 
   at_scaled : (i : ℕ) → i < m → at (map (λ c. p * c) told) i ≡ p * share shares i

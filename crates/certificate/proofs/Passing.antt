@@ -62,7 +62,7 @@ module _ (rows : List Counts) (x : Counts) (i : ℕ) (v : Walk) (s : Passing row
   pass_over z = sym s.goes ∙ walk_over rows (walk_of (length rows) v) z
 
   -- all rows were passed
-  pass_stuck : zeros v.rest.counts ≡ false → length rows ≤ i → walk rows x ≡ stuck
+  pub pass_stuck : zeros v.rest.counts ≡ false → length rows ≤ i → walk rows x ≡ stuck
   pass_stuck f all = sym s.goes ∙ nothing_within rows (walk_of (length rows) v) f (λ h l. s.passed h (omega (arith, all, l)))
 
   -- the answer after the last row

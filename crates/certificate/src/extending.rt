@@ -1,4 +1,5 @@
 // The certificate of a walk that begins, and of one that takes a row more.
+ghost use Rattle.std.specs.Prelude.{Some, None, MatchOption};
 ghost use Rattle.certificate.specs.Extending.{Empty, Scaled, Extended};
 
 use crate::Certificate;
@@ -40,14 +41,13 @@ impl Certificate {
         Some(all)
     }
 
-    // Everything multiplied by the ratio's bottom, and its top as the coefficient of one row more; none where a number is then too
-    // large, or where there are 24 rows.
-    pub(crate) fn extended(&self, row: usize, ratio: &Ratio) -> Option<Certificate>
-        ensures { Extended row ratio.now.top ratio.now.bottom self.now result }
+    // Multiplies everything by the ratio's bottom, and puts its top as the coefficient of one row more; none where a number is then too
+    // large, or where there are 24 rows: what then stands in the certificate is of no use.
+    pub(crate) fn extend(&mut self, row: usize, ratio: &Ratio) -> Option<()>
+        ensures { MatchOption result (Extended row ratio.now.top ratio.now.bottom self.old None) (λ _. Extended row ratio.now.top ratio.now.bottom self.old (Some self.new)) }
     {
-        let mut more = self.scaled(ratio.bottom)?;
+        *self = self.scaled(ratio.bottom)?;
         let coefficient = narrow(u64::from(ratio.top))?;
-        more.shares.push(Share { row, coefficient }).ok()?;
-        Some(more)
+        self.shares.push(Share { row, coefficient }).ok()
     }
 }

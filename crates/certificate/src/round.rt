@@ -1,5 +1,5 @@
 // One round of a walk: what is left of the question, and what was taken of it.
-ghost use Rattle.std.specs.Prelude.{◌≡◌};
+ghost use Rattle.std.specs.Prelude.{◌≡◌, Some, None, MatchOption};
 ghost use Rattle.cycle_theory.specs.Method.{within};
 ghost use Rattle.cycle_theory.specs.Walk.{zeros};
 ghost use Rattle.certificate.specs.Rounds.{Begun, Least, Left, Took};
@@ -48,15 +48,15 @@ impl Walk {
             .all(|(count, left)| *count == 0 || *left != 0)
     }
 
-    // The walk after a round that takes the row at k, counted from 0; none where the row uses no step, where a number is then too
-    // large, or where 24 rows were taken.
-    pub(crate) fn take(&self, k: usize, row: &Row) -> Option<Walk>
-        ensures { Took k row.now.counts self.now result }
+    // Goes a round, which takes the row at k, counted from 0; none where the row uses no step, where a number is then too large, or where
+    // 24 rows were taken: the walk is then at its end.
+    pub(crate) fn take(&mut self, k: usize, row: &Row) -> Option<()>
+        ensures { MatchOption result (Took k row.now.counts self.old None) (λ _. Took k row.now.counts self.old (Some self.new)) }
     {
         let ratio = least_ratio(row, &self.rest)?;
-        let certificate = self.certificate.extended(k, &ratio)?;
-        let rest = left(&self.rest, row, &ratio)?;
-        Some(Walk { rest, certificate })
+        self.certificate.extend(k, &ratio)?;
+        self.rest = left(&self.rest, row, &ratio)?;
+        Some(())
     }
 }
 

@@ -19,7 +19,7 @@ pub fn walk<L: Ledger>(rows: &L, question: &Row) -> Option<Certificate>
         }
         let row = rows.read(i + 1).ok()?;
         if walk.takes(&row) {
-            walk = walk.take(i, &row)?;
+            walk.take(i, &row)?;
         }
     }
     walk.is_done().then_some(walk.certificate)

@@ -23,7 +23,7 @@ fn read_fields(mark: Mark, bytes: &[u8], number: usize) -> Result<Line, BrokenLi
 {
     let mut count = 0;
     let mut fields = InlineList::new(Field {
-        line: number,
+        line: 0,
         column: 0,
         value: 0,
     });

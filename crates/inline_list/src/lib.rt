@@ -2,7 +2,7 @@
 #![tactic(auto)]
 
 ghost use Rattle.std.specs.Prelude.{◌≡◌, ◌≤◌, [], length};
-ghost use Rattle.inline_list.specs.Items.{items, Pushed, Copied};
+ghost use Rattle.inline_list.specs.Items.{items, Roomy, Pushed, Copied};
 
 mod list;
 
@@ -27,20 +27,30 @@ impl<T: Copy, const N: usize> InlineList<T, N> {
     pub fn from_slice(all: &[T], blank: T) -> Result<Self, Full>
         ensures { Copied N all.now result }
     {
-        let mut list = InlineList::new(blank);
-        for item in all {
-            list.push(*item)?;
+        let count = all.len();
+        if count > N {
+            return Err(Full);
         }
-        Ok(list)
+        let mut slots = [blank; N];
+        slots[..count].copy_from_slice(all);
+        Ok(InlineList { count, slots })
+    }
+
+    // Refused where there is no room for one item more.
+    pub fn check_room(&self) -> Result<(), Full>
+        ensures { Roomy N (items self.now) result }
+    {
+        if self.count >= N {
+            return Err(Full);
+        }
+        Ok(())
     }
 
     // One item more at the end, refused where there are N.
     pub fn push(&mut self, item: T) -> Result<(), Full>
         ensures { Pushed N (items self.old) item result (items self.new) }
     {
-        if self.count >= N {
-            return Err(Full);
-        }
+        self.check_room()?;
         self.slots[self.count] = item;
         self.count += 1;
         Ok(())

@@ -1,9 +1,9 @@
 -- The order of rows, as a test.
-use Rattle.std.proofs.Common.{◌≡◌, Bool, true, ◌&&◌, eqb, ltb, [], ◌∷◌, Some, refl, inl, inr, arith}
+use Rattle.std.proofs.Common.{◌≡◌, true, ◌&&◌, eqb, ltb, Ordering, [], ◌∷◌, refl, inl, inr, arith}
 use Rattle.std.proofs.lemmas.Bool.{lt-ltb, eq-eqb, or_left, or_right, and_from}
-use Rattle.std.specs.Ordering.{nat_cmp, is_lt, is_some_and}
-use Rattle.std.specs.Cmp.Lexicographic.{slice_partial_cmp}
-use Rattle.std.proofs.lemmas.Cmp.{same_from_slice_cmp_tested}
+use Rattle.std.specs.Ordering.{nat_cmp, is_lt}
+use Rattle.std.specs.Cmp.Lexicographic.{slice_cmp}
+use Rattle.std.proofs.lemmas.Cmp.{same_from_slice_cmp}
 use Rattle.std.proofs.lemmas.Bool.Decides.{nat_tests}
 use Rattle.cycle_theory.specs.Nets.{Counts, Before}
 use Rattle.cycle_theory.specs.Method.{before}
@@ -16,5 +16,5 @@ true_before (a ∷ x) (b ∷ y) (inl p) = or_left (ltb a b) (eqb a b && before x
 true_before (a ∷ x) (b ∷ y) (inr p) = or_right (ltb a b) (eqb a b && before x y) (and_from (eqb a b) (before x y) (eq-eqb a b p.0) (true_before x y p.1))
 
 -- the library's order of lists is that of rows
-pub is_before : (x y : Counts) (r : Bool) → r ≡ is_some_and is_lt (slice_partial_cmp (λ a b. Some (nat_cmp a b)) x y) → r ≡ before x y
-is_before = same_from_slice_cmp_tested nat_cmp is_lt before refl (λ _ _. refl) (λ _ _. refl) (λ x y xs ys o h. grind (arith, nat_tests))
+pub is_before : (x y : Counts) (r : Ordering) → r ≡ slice_cmp nat_cmp x y → is_lt r ≡ before x y
+is_before = same_from_slice_cmp nat_cmp is_lt before refl (λ _ _. refl) (λ _ _. refl) (λ x y xs ys o h. grind (arith, nat_tests))

@@ -111,7 +111,7 @@ within_covered u v w i j h zu zv = ⊎_elim (λ e. e)
     (λ ne. absurd (let k = i j (omega (arith, ne)) in let f : ⊥ = omega (arith, k, zu, zv) in f))
     (cases_eq (at w j) 0)
 
-mask_decides : (w u v : Counts) (m x y : ℕ) → length w ≡ 24 → Mask w m → Mask u x → Mask v y → Decides (eqb (bit_and m (4294967295 - bit_or x y)) 0) (WithinPair w u v)
+pub mask_decides : (w u v : Counts) (m x y : ℕ) → length w ≡ 24 → Mask w m → Mask u x → Mask v y → Decides (eqb (bit_and m (4294967295 - bit_or x y)) 0) (WithinPair w u v)
 mask_decides w u v m x y wide mw mu mv = (
   (λ t. covered_within u v w wide (covered_from w u v m x y mw mu mv (eqb-true _ _ t))),
   (λ i. eq-eqb _ _ (covered_to w u v m x y mw mu mv (within_covered u v w i))),
@@ -119,7 +119,7 @@ mask_decides w u v m x y wide mw mu mv = (
 
 -- whether the row of a reading is a third one that uses only steps of the two
 abbrev pub is_third : Reading → Reading → Reading → Bool
-is_third a b r = not (eqb r.row a.row) && (not (eqb r.row b.row) && eqb (bit_and r.mask (4294967295 - bit_or a.mask b.mask)) 0)
+is_third a b r = eqb (bit_and r.mask (4294967295 - bit_or a.mask b.mask)) 0 && (not (eqb r.row a.row) && not (eqb r.row b.row))
 
 module _ (p : List ℤ) (rows : List Counts) (s : List Reading) (a b : Reading) (surveyed : Surveyed p rows s) (ta : Told p rows a) (tb : Told p rows b) where
   third_from : Any (λ r. is_third a b r ≡ true) s → Third rows a.row b.row
@@ -129,9 +129,9 @@ module _ (p : List ℤ) (rows : List Counts) (s : List Reading) (a b : Reading) 
       let second = and_parts _ _ first.1 in (
         r.row,
         told.inside,
-        (λ e. both_ways _ (not-true _ first.0) (eq-eqb _ _ e)),
         (λ e. both_ways _ (not-true _ second.0) (eq-eqb _ _ e)),
-        (mask_decides (row_at rows r.row) (row_at rows a.row) (row_at rows b.row) r.mask a.mask b.mask told.wide told.mask_is ta.mask_is tb.mask_is).0 second.1,
+        (λ e. both_ways _ (not-true _ second.1) (eq-eqb _ _ e)),
+        (mask_decides (row_at rows r.row) (row_at rows a.row) (row_at rows b.row) r.mask a.mask b.mask told.wide told.mask_is ta.mask_is tb.mask_is).0 first.0,
       )
 
   third_to : Third rows a.row b.row → list_any (is_third a b) s ≡ true
@@ -140,9 +140,10 @@ module _ (p : List ℤ) (rows : List Counts) (s : List Reading) (a b : Reading) 
       let here : k < length s = let many = surveyed.many in omega (arith, many, l) in
       let told = surveyed.told k a here in
       let turn : r.row ≡ k = surveyed.in_turn k a here in
-      list_any_at (is_third a b) s k a here (and_from _ _ (not_from_false _ (ne_eqb _ _ (λ e. na (sym turn ∙ e)))) (and_from _ _ (not_from_false _ (ne_eqb _ _ (λ e. nb (sym turn ∙ e))))
+      list_any_at (is_third a b) s k a here (and_from _ _
       ((mask_decides (row_at rows r.row) (row_at rows a.row) (row_at rows b.row) r.mask a.mask b.mask told.wide told.mask_is ta.mask_is tb.mask_is).1
-      (subst (λ i. WithinPair (row_at rows i) (row_at rows a.row) (row_at rows b.row)) (sym turn) within))))
+      (subst (λ i. WithinPair (row_at rows i) (row_at rows a.row) (row_at rows b.row)) (sym turn) within))
+      (and_from _ _ (not_from_false _ (ne_eqb _ _ (λ e. na (sym turn ∙ e)))) (not_from_false _ (ne_eqb _ _ (λ e. nb (sym turn ∙ e))))))
 
   pub third_decides : (t : Bool) → t ≡ list_any (is_third a b) s → Decides t (Third rows a.row b.row)
   third_decides t is = ((λ e. third_from (Any-from_list_any (is_third a b) s (sym is ∙ e))), (λ third. is ∙ third_to third))

@@ -14,7 +14,7 @@ loses_sum p x h = subst (λ (z : ℤ). z <ℤ pos 0) (sym (sum_said p x)) (omega
 
 -- a sum as the code stores it, and its tests
 module _ (z : ℤ) (bounded : nat_abs z ≤ 25165800000) where
-  stored : to_z w64 (of_z w64 z) ≡ z
+  pub stored : to_z w64 (of_z w64 z) ≡ z
   stored = to_z-of_z w64 z (fits z bounded)
     where
       fits : (x : ℤ) → nat_abs x ≤ 25165800000 → SFits w64 x

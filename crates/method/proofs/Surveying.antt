@@ -1,10 +1,11 @@
 -- One row more in the survey.
-use Rattle.std.proofs.Common.{◌≡◌, ℕ, ◌-◌, ◌<◌, ◌≤◌, List, [], ◌∷◌, ◌++◌, length, get_or, ℤ, Ok, Err, Result, refl, sym, ap, ◌∙◌, subst, ⊎_elim, arith, length-append}
+use Rattle.std.proofs.Common.{◌≡◌, ℕ, ◌-◌, ◌<◌, ◌≤◌, List, [], ◌∷◌, ◌++◌, length, get_or, ℤ, Result, refl, sym, ap, ◌∙◌, subst, ⊎_elim, arith, length-append}
 use Rattle.std.specs.List.{All}
 use Rattle.std.proofs.lemmas.Bool.{cases_lt}
 use Rattle.std.proofs.lemmas.List.{get_or-append_right, get_or_append_left}
 use Rattle.inline_list.specs.declared.Full.{Full}
 use Rattle.inline_list.specs.Items.{Pushed}
+use Rattle.inline_list.proofs.Pushing.{pushed_with_room}
 use Rattle.cycle_theory.specs.Nets.{Counts}
 use Rattle.method.specs.declared.reading.Reading.{Reading}
 use Rattle.method.specs.Surveys.{Told, Surveyed}
@@ -16,8 +17,7 @@ pub record Front (p : List ℤ) (rows : List Counts) (s : List Reading) : Type 0
 
 -- there is room
 pub pushed_there : (s t : List Reading) (r : Reading) (answer : Result (Unit {0}) Full) → length s < 1024 → Pushed 1024 s r answer t → t ≡ s ++ r ∷ []
-pushed_there s t r (Ok _) room pushed = pushed.1
-pushed_there s t r (Err _) room pushed = absurd (let e = pushed.0 in omega (arith, e, room))
+pushed_there s t r answer room pushed = pushed_with_room 1024 s r answer t room pushed
 
 module _ (s : List Reading) (r : Reading) (P : ℕ → Reading → Type 0) (before : (k : ℕ) (d : Reading) → k < length s → P k (get_or s k d)) (last : P (length s) r) where
   each_more : (k : ℕ) (d : Reading) → k < length (s ++ r ∷ []) → P k (get_or (s ++ r ∷ []) k d)

@@ -6,7 +6,7 @@ use crate::held::{Held, row_at};
 use crate::order::put;
 use crate::pairs::{are_adjacent, pair_row};
 use crate::reading::Reading;
-use crate::survey::survey_of;
+use crate::survey::{no_readings, survey_of};
 use crate::{Place, StepFault};
 use ledger::{Ledger, LedgerFault};
 
@@ -17,7 +17,8 @@ type Room = Result<(), LedgerFault>;
 pub(crate) fn build<L: Ledger>(current: &L, place: &Place, spare: &mut L) -> Result<(), StepFault>
     ensures { Built L.Ledger (effects_of place.now) current.now spare.old spare.new result }
 {
-    let survey = survey_of(current, place);
+    let mut survey = no_readings();
+    survey_of(current, place, &mut survey);
     let readings = survey.as_slice();
     let mut room = add_balanced(current, readings, spare);
     for a in readings {
@@ -33,7 +34,7 @@ fn add_balanced<L: Ledger>(current: &L, survey: &[Reading], spare: &mut L) -> Ro
     let mut room = Ok(());
     for reading in survey {
         if reading.sum == 0 {
-            room = add(spare, &row_at(current, reading.row), room);
+            room = add(spare, &row_at(current, reading.row as usize), room);
         }
     }
     room

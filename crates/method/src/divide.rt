@@ -16,5 +16,5 @@ pub(crate) fn divided_by(counts: &[u64; 24], by: u64) -> [u64; 24]
     requires { 0 < by }
     ensures { (j : ℕ) → j < 24 → slice_index result j ≡ slice_index counts.now j / by }
 {
-    counts.map(|c| c / by)
+    std::array::from_fn(|j| counts[j] / by)
 }

@@ -10,7 +10,8 @@ use ledger::{Ledger, LedgerFault, Row};
 fn comes_before(a: &Row, b: &Row) -> bool
     ensures { result ≡ before a.now.counts b.now.counts }
 {
-    a.counts < b.counts
+    // By `cmp`, which passes equal counts in strides; `<` would make an option of an ordering for each.
+    a.counts.cmp(&b.counts).is_lt()
 }
 
 // How many rows of an ascending ledger come before the row, by binary search: a ledger lends no slice, so that `partition_point` cannot serve.

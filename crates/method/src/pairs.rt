@@ -23,5 +23,7 @@ pub(crate) fn pair_row<L: Ledger>(current: &L, a: &Reading, b: &Reading) -> Opti
 {
     let s = a.sum.unsigned_abs();
     let r = b.sum.unsigned_abs();
-    combine_rows(&row_at(current, a.row), &row_at(current, b.row), r, s)
+    let u = row_at(current, a.row as usize);
+    let v = row_at(current, b.row as usize);
+    combine_rows(&u, &v, r, s)
 }

@@ -9,7 +9,8 @@ pub(crate) fn third_row(survey: &[Reading], a: &Reading, b: &Reading) -> bool
     ensures { (p : List ℤ) (rows : List (List ℕ)) → Surveyed p rows survey.now → Told p rows a.now → Told p rows b.now → Decides result (Third rows a.now.row b.now.row) }
 {
     let pair = a.mask | b.mask;
-    survey.iter().any(|c| c.row != a.row && c.row != b.row && uses_only(c.mask, pair))
+    // The masks first: nearly every row fails there.
+    survey.iter().any(|c| uses_only(c.mask, pair) && c.row != a.row && c.row != b.row)
 }
 
 // Whether a row uses only steps of a pair: masks of the row, and of the two together.

@@ -39,11 +39,10 @@ impl<L: Ledger> OpenSheet<L> {
             return Err(SheetFault::Length);
         }
         let place = Place::new(effects)?;
-        // A copy: a refusal leaves the places of the sheet as they were.
-        let mut places = self.places;
-        places.push(place)?;
+        self.places.check_room()?;
         next_rows(&self.current, &place, &mut self.spare)?;
-        self.places = places;
+        // There is room, so that this is not refused.
+        let _ = self.places.push(place);
         std::mem::swap(&mut self.current, &mut self.spare);
         self.spare.clear();
         Ok(())

@@ -13,7 +13,7 @@ returns-in_err-room-2 g c =
     rw (r.1, r.2) (λ A oc cover asc os empty.
     let rows = g.L.Ledger.rows c.args.current.now in
     let p = effects_of c.args.place.now in
-    let surveyed = subst (Surveyed p rows) (sym c.as_slice-readings.ensures.value) (c.survey_of-survey.ensures oc) in
+    let surveyed = subst (Surveyed p rows) (sym c.as_slice-readings.ensures.value) (c.survey_of.ensures oc) in
     let ready : Ready g.L.Ledger p A c.args.current.now c.as_slice-readings.result.now = record { order = oc; cover = cover; ascending = asc; surveyed = surveyed } in
     let all : c.loop-a.a-index ≡ length rows = let many = surveyed.many in let l = c.loop-a-test.false in let k = c.loop-a.auto.a-index-end in omega (arith, many, l, k) in
     ended_full g.L.Ledger A rows cover asc p c.loop-a.a-index all c.loop-a.spare c.loop-a.room
@@ -23,7 +23,7 @@ pub returns : goal.returns
 returns g c A oc cover asc os empty =
     let rows = g.L.Ledger.rows c.args.current.now in
     let p = effects_of c.args.place.now in
-    let surveyed = subst (Surveyed p rows) (sym c.as_slice-readings.ensures.value) (c.survey_of-survey.ensures oc) in
+    let surveyed = subst (Surveyed p rows) (sym c.as_slice-readings.ensures.value) (c.survey_of.ensures oc) in
     let ready : Ready g.L.Ledger p A c.args.current.now c.as_slice-readings.result.now = record { order = oc; cover = cover; ascending = asc; surveyed = surveyed } in
     let all : c.loop-a.a-index ≡ length rows = let many = surveyed.many in let l = c.loop-a-test.false in let k = c.loop-a.auto.a-index-end in omega (arith, many, l, k) in
     ended_ok g.L.Ledger A rows cover asc p c.loop-a.a-index all c.loop-a.spare c.loop-a.room

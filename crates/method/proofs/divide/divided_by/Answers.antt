@@ -1,6 +1,6 @@
-use Rattle.std.proofs.Common.{◌/◌, rules}
-use Rattle.method.proofs.Arrays.{mapped_at}
+use Rattle.std.proofs.Common.{◌/◌, get_or, rules}
+use Rattle.method.proofs.Arrays.{made_at}
 use Rattle.method.proofs.divide.divided_by.Goals as goal
 
 pub returns : goal.returns
-returns c = mapped_at _ _ (λ n. n / c.args.by) 0 0 c.args.counts.now c.map.result (λ n y q called. search rules) 24 c.map.ensures.items
+returns c = made_at _ _ (λ j. get_or c.args.counts.now j 0 / c.args.by) 0 c.from_fn.result (λ j y q called. search rules) 24 c.from_fn.ensures.items
